@@ -1,0 +1,6 @@
+use Rattle.std.proofs.lemmas.Map.Made.{keys_of-map_values}
+use Rattle.cv_values.specs.Trees.{tree}
+use Rattle.cv_values.proofs.val.Fields.len.Goals as goal
+
+pub returns-clause-ordered : goal.returns-clause-ordered
+returns-clause-ordered c = rw (← c.self.view_is, keys_of-map_values tree c.self.inside.inner.entries) c.len.ensures.ordered

@@ -1,0 +1,11 @@
+pub mod Codes
+pub mod Docs
+pub mod Equality
+pub mod Hashes
+pub mod Ids
+pub mod Nesting
+pub mod Order
+pub mod OrderLaws
+pub mod Sizes
+pub mod Trees
+pub mod Value

@@ -1,0 +1,158 @@
+ghost use Rattle.std.specs.Prelude.{◌≡◌, map, true, false};
+ghost use Rattle.cv_values.specs.Sizes.{checked, has_many, has_bad_name, values_many, members_many, values_bad_name, members_bad_name, is_bad_name};
+ghost use Rattle.cv_values.specs.Trees.{tree};
+ghost use Rattle.cv_values.specs.Value.{values_of, members_of, object};
+
+use crate::sizes::{depth_of, depth_of_fields, size_of, size_of_fields};
+use crate::text::Text;
+use crate::val::{Fields, Val};
+
+/// Why a value is refused. A value that deserves several is refused by the first.
+#[derive(Clone, Copy, Debug, PartialEq, Eq)]
+pub enum ValueFault {
+    /// It nests deeper than 64.
+    TooDeep,
+    /// An array has more than 8,192 items, or an object more than 1,024 names.
+    TooMany,
+    /// A name is empty or begins with `$`; in fields to be stored, also with `_`.
+    BadName,
+    /// It has more than 1,048,576 size units.
+    TooLarge,
+}
+
+const MAX_DEPTH: u32 = 64;
+
+const MAX_SIZE: u64 = 1_048_576;
+
+const MAX_ITEMS: usize = 8192;
+
+const MAX_NAMES: usize = 1024;
+
+/// Refuses a value by the first of the faults, in the order in which they are declared, each over
+/// the whole value. It goes over the value once for each fault.
+pub fn check_value(v: &Val) -> Result<(), ValueFault>
+    ensures { result ≡ checked false (tree v.now) }
+{
+    if depth_of(v) > MAX_DEPTH {
+        return Err(ValueFault::TooDeep);
+    }
+    if has_many(v) {
+        return Err(ValueFault::TooMany);
+    }
+    if has_bad_name(false, v) {
+        return Err(ValueFault::BadName);
+    }
+    if size_of(v) > MAX_SIZE {
+        return Err(ValueFault::TooLarge);
+    }
+    Ok(())
+}
+
+/// The same of the object of these fields, in which a name that begins with `_` is bad too.
+pub fn check_fields(f: &Fields) -> Result<(), ValueFault>
+    ensures { result ≡ checked true (object (members_of f.now)) }
+{
+    if depth_of_fields(f) >= MAX_DEPTH {
+        return Err(ValueFault::TooDeep);
+    }
+    if fields_have_many(f) {
+        return Err(ValueFault::TooMany);
+    }
+    if fields_have_bad_name(true, f) {
+        return Err(ValueFault::BadName);
+    }
+    if size_of_fields(f) > MAX_SIZE - 2 {
+        return Err(ValueFault::TooLarge);
+    }
+    Ok(())
+}
+
+#[cycle(has_many)]
+#[tactic(auto, using(crate::proofs::Lens::values_len_is))]
+fn has_many(v: &Val) -> bool
+    ensures { result ≡ has_many (tree v.now) }
+{
+    match v {
+        Val::Arr(items) => {
+            items.as_slice().len() > MAX_ITEMS || values_have_many(items.as_slice())
+        }
+        Val::Obj(fields) => fields_have_many(fields),
+        _ => false,
+    }
+}
+
+#[cycle(has_many)]
+fn values_have_many(items: &[Val]) -> bool
+    ensures { result ≡ values_many (values_of (map tree items.now)) }
+{
+    for item in items {
+        if has_many(item) {
+            return true;
+        }
+    }
+    false
+}
+
+#[cycle(has_many)]
+#[tactic(auto, using(crate::proofs::Lens::members_len_is))]
+fn fields_have_many(fields: &Fields) -> bool
+    ensures { result ≡ has_many (object (members_of fields.now)) }
+{
+    fields.len() > MAX_NAMES || members_have_many(fields)
+}
+
+#[cycle(has_many)]
+fn members_have_many(fields: &Fields) -> bool
+    ensures { result ≡ members_many (members_of fields.now) }
+{
+    for (_name, v) in fields.as_map() {
+        if has_many(v) {
+            return true;
+        }
+    }
+    false
+}
+
+#[cycle(has_bad_name)]
+fn has_bad_name(stored: bool, v: &Val) -> bool
+    ensures { result ≡ has_bad_name stored (tree v.now) }
+{
+    match v {
+        Val::Arr(items) => values_have_bad_name(stored, items.as_slice()),
+        Val::Obj(fields) => fields_have_bad_name(stored, fields),
+        _ => false,
+    }
+}
+
+#[cycle(has_bad_name)]
+fn values_have_bad_name(stored: bool, items: &[Val]) -> bool
+    ensures { result ≡ values_bad_name stored (values_of (map tree items.now)) }
+{
+    for item in items {
+        if has_bad_name(stored, item) {
+            return true;
+        }
+    }
+    false
+}
+
+#[cycle(has_bad_name)]
+fn fields_have_bad_name(stored: bool, fields: &Fields) -> bool
+    ensures { result ≡ members_bad_name stored (members_of fields.now) }
+{
+    for (name, v) in fields.as_map() {
+        if is_bad_name(stored, name) || has_bad_name(stored, v) {
+            return true;
+        }
+    }
+    false
+}
+
+fn is_bad_name(stored: bool, name: &Text) -> bool
+    ensures { result ≡ is_bad_name stored name.now }
+{
+    match name.as_str().as_bytes() {
+        [] => true,
+        [first, ..] => *first == b'$' || (stored && *first == b'_'),
+    }
+}
