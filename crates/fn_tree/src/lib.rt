@@ -1,0 +1,19 @@
+//! Calls, replies, writes and the log's entries, and what they mean: documents, the run of a call,
+//! histories and what makes one legal.
+//!
+//! A history is the list of a log's entries in order. It is legal where each entry is the run of its
+//! call on the documents that the entries before it left, and no two entries have one session's
+//! request: a run of one thread. The idea is that of the
+//! [article How Convex Works](https://stack.convex.dev/how-convex-works); the definitions in `specs/`
+//! are this project's own.
+#![tactic(auto)]
+
+mod entry;
+mod laws;
+#[cfg(test)]
+mod tests;
+mod write;
+
+pub use entry::{Call, Entry, Reply};
+pub use laws::{legal_histories, worked_histories};
+pub use write::Write;
