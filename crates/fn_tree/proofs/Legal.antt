@@ -1,9 +1,9 @@
 -- Fronts of legal histories, and entries at their end.
-use Rattle.std.proofs.Common.{◌≡◌, List, [], ◌∷◌, ◌++◌, refl, sym}
+use Rattle.std.proofs.Common.{◌≡◌, [], ◌∷◌, ◌++◌, refl, sym}
 use Rattle.std.specs.Prelude.{◌≢◌}
 use Rattle.fn_tree.specs.Documents.{Docs, applied}
 use Rattle.fn_tree.specs.FirstForm.{Program}
-use Rattle.fn_tree.specs.History.{History, IsLegal, IsRunOn, AreRuns, Pair, HasNoPair, HasDistinctPairs, pair_of, docs_after}
+use Rattle.fn_tree.specs.History.{History, IsRunOn, AreRuns, Pair, HasNoPair, HasDistinctPairs, pair_of, docs_after}
 use Rattle.fn_tree.specs.HistoryLaws.{FrontsAreLegal, GoOnByRuns}
 use Rattle.fn_tree.specs.declared.entry.Entry.{Entry}
 

@@ -1,5 +1,5 @@
 -- Laws of legal histories.
-use Rattle.std.specs.Prelude.{◌≡◌, ◌⊎◌, ℕ, List, [], ◌∷◌, ◌++◌, Some}
+use Rattle.std.specs.Prelude.{◌≡◌, ◌⊎◌, [], ◌∷◌, ◌++◌, Some}
 use Rattle.cv_values.specs.declared.doc.Doc.{Doc}
 use Rattle.cv_values.specs.declared.ids.DocId.{DocId}
 use Rattle.fn_tree.specs.Documents.{doc_of}

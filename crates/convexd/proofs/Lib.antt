@@ -1,0 +1,14 @@
+pub mod Ascii
+pub mod CallLemmas
+pub mod CutLemmas
+pub mod GuessLemmas
+pub mod GuessWhole
+pub mod Held
+pub mod JsonTexts
+pub mod LineLemmas
+pub mod MapLemmas
+pub mod OneLog
+pub mod OneProgram
+pub mod Playing
+pub mod Walked
+pub mod Writes

@@ -1,0 +1,5 @@
+use Rattle.convexd.proofs.OneLog.{one_log}
+use Rattle.convexd.proofs.laws.scripts_make_one_log.Goals as goal
+
+pub returns : goal.returns
+returns c = one_log

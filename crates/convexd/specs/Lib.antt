@@ -1,0 +1,9 @@
+pub mod CallLine
+pub mod Contents
+pub mod Guess
+pub mod Lines
+pub mod ModuleText
+pub mod ModuleViews
+pub mod Play
+pub mod Replay
+pub mod WordViews

@@ -1,0 +1,22 @@
+//! Laws of the definitions, each a function with nothing to do.
+ghost use Rattle.std.specs.Prelude.{List, ℕ, Option, [], ◌≡◌};
+ghost use Rattle.fn_tree.specs.FirstForm.{Program};
+ghost use Rattle.convexd.specs.ModuleText.{IsTextOf};
+ghost use Rattle.convexd.specs.Play.{IsOneLog, play};
+ghost use Rattle.convexd.specs.Replay.{IsGood, Replays, IsDoneOrFault};
+ghost use Rattle.convexd.specs.declared.exit.Exit.{Exit};
+
+/// A text is that of at most one program.
+pub fn at_most_one_program()
+    ensures { (p q : Program) (text : List ℕ) → IsTextOf p text → IsTextOf q text → p ≡ q }
+{}
+
+/// What a script plays is one log: a legal history, told reply by reply.
+pub fn scripts_make_one_log()
+    ensures { (p : Program) (first : ℕ) (lines : List (List ℕ)) → IsOneLog p (play p [] first lines) }
+{}
+
+/// A good input is answered by Done, or by a fault that has a cause of its own.
+pub fn good_inputs_end()
+    ensures { (input : List ℕ) → IsGood input → (old new : Option (List ℕ)) (exit : Exit) → Replays input old new exit → IsDoneOrFault exit }
+{}

@@ -1,0 +1,79 @@
+//! The command that plays a script.
+ghost use Rattle.std.specs.Prelude.{◌≡◌, ◌↔◌, ◌≤◌, length, IfSome, IsTrue, map, string_bytes, codes};
+ghost use Rattle.std.specs.Io.KnownBytes.{IsAtEnd};
+ghost use Rattle.cv_outside.specs.Causes.{Rose};
+ghost use Rattle.cv_outside.specs.declared.whole.TheConstants.{INPUT_LIMIT};
+ghost use Rattle.convexd.specs.Replay.{replay_words, Replays};
+
+use crate::exit::{Exit, ModuleFault};
+use crate::first_form::read_module;
+use crate::lines::cut;
+use crate::play::{PlayFault, play_script};
+use cv_outside::{ReadFault, Sink, Source, read_whole};
+use std::alloc::Global;
+
+fn is_replay(word: &String) -> bool
+    ensures { IsTrue result ↔ (string_bytes word.now ≡ codes "replay") }
+{
+    word.as_str() == "replay"
+}
+
+fn says_replay(words: &[String]) -> bool
+    ensures { IsTrue result ↔ (map string_bytes words.now ≡ replay_words) }
+{
+    match words {
+        [word] => is_replay(word),
+        _ => false,
+    }
+}
+
+fn replay_input<O: Sink>(alloc: Global, input: &[u8], out: &mut O) -> Exit
+    requires { length input.now ≤ INPUT_LIMIT }
+    ensures answer { Replays input.now (O.held out.old) (O.held out.new) result }
+    ensures usage { result ≡ Exit.Usage → ⊥ }
+    ensures read { result ≡ Exit.Read → ⊥ }
+    ensures write { result ≡ Exit.Write → Rose (O.faults out.old) (O.faults out.new) }
+    ensures later { O.faults out.old ≤ O.faults out.new }
+{
+    let parts = match cut(input) {
+        Ok(parts) => parts,
+        Err(line) => return Exit::Script { line },
+    };
+    let program = match read_module(alloc, parts.module) {
+        Ok(Some(program)) => program,
+        Ok(None) => return Exit::Module(ModuleFault::NotYet),
+        Err(_) => return Exit::Memory,
+    };
+    match play_script(alloc, &program, parts.script, parts.line, out) {
+        Ok(()) => Exit::Done,
+        Err(PlayFault::Script { line }) => Exit::Script { line },
+        Err(PlayFault::Write) => Exit::Write,
+        Err(PlayFault::Memory) => Exit::Memory,
+    }
+}
+
+/// The command `replay`: reads a module's text, the line `%%` and a script, plays the script and
+/// writes each reply and at last the length of the log. The answers come in this order: the words, the
+/// whole input, the line `%%`, the module, then the script line by line.
+pub fn replay_main<I: Source, O: Sink>(
+    alloc: Global,
+    words: &Vec<String>,
+    input: &mut I,
+    out: &mut O,
+) -> Exit
+    ensures usage { (result ≡ Exit.Usage) ↔ ¬ (map string_bytes words.now.items ≡ replay_words) }
+    ensures answer { IfSome (I.left input.old) (λ bytes. Replays bytes (O.held out.old) (O.held out.new) result) }
+    ensures end { result ≡ Exit.Done → IsAtEnd (I.left input.new) }
+    ensures read { result ≡ Exit.Read → Rose (I.faults input.old) (I.faults input.new) }
+    ensures write { result ≡ Exit.Write → Rose (O.faults out.old) (O.faults out.new) }
+{
+    if !says_replay(words) {
+        return Exit::Usage;
+    }
+    match read_whole(alloc, input) {
+        Ok(bytes) => replay_input(alloc, &bytes, out),
+        Err(ReadFault::Read) => Exit::Read,
+        Err(ReadFault::TooLarge) => Exit::TooLarge,
+        Err(ReadFault::Memory) => Exit::Memory,
+    }
+}

@@ -1,0 +1,192 @@
+use crate::{Exit, ModuleFault, replay_main};
+use cv_outside::{INPUT_LIMIT, MemSink, MemSource};
+use std::alloc::Global;
+use std::test::Fail;
+
+const MODULE: &str =
+    "table t { }\nmutation m:add(x) { insert(\"t\", {v: x}); return x; }\nmutation m:size() { return count(\"t\"); }\n%%\n";
+
+const CALLS: &str =
+    "call 00000000-0000-0000-0000-000000000001 1 m:add {\"x\":1}\ncall 00000000-0000-0000-0000-000000000001 2 m:add {\"x\":2}\ncall 00000000-0000-0000-0000-000000000001 3 m:size {}\n";
+
+const REPLIES: &str =
+    "reply 1 ok {\"$integer\":\"AQAAAAAAAAA=\"}\nreply 2 ok {\"$integer\":\"AgAAAAAAAAA=\"}\nreply 3 ok {\"$integer\":\"AgAAAAAAAAA=\"}\nts 3\n";
+
+// Plays an input over a source and a sink whose calls of these numbers fail.
+fn replayed(
+    alloc: Global,
+    words: &[&str],
+    input: Vec<u8>,
+    reads: &[u64],
+    writes: &[u64],
+) -> Result<(Exit, Vec<u8>), Fail> {
+    let mut all = Vec::new(alloc);
+    for word in words {
+        all.push(String::from_str(alloc, word)?)?;
+    }
+    let mut source = MemSource::new(input, reads.to_vec(alloc)?);
+    let mut sink = MemSink::new(alloc, 1_000_000, writes.to_vec(alloc)?)?;
+    let exit = replay_main(alloc, &all, &mut source, &mut sink);
+    Ok((exit, sink.bytes().to_vec(alloc)?))
+}
+
+fn first_run(alloc: Global) -> Result<Vec<u8>, Fail> {
+    let mut input = MODULE.as_bytes().to_vec(alloc)?;
+    input.extend_from_slice(CALLS.as_bytes())?;
+    Ok(input)
+}
+
+#[test]
+fn whole_inputs(rt: HostRuntime) -> Result<(), Fail> {
+    let alloc = rt.alloc();
+    let refused = Exit::Module(ModuleFault::NotYet);
+    let rows = [
+        ("", Exit::Script { line: 1 }, ""),
+        ("%%\n", Exit::Done, "ts 0\n"),
+        ("%%", Exit::Done, "ts 0\n"),
+        ("%%\r", Exit::Done, "ts 0\n"),
+        ("%%\n\n\r\n", Exit::Done, "ts 0\n"),
+        ("%% \n", Exit::Script { line: 2 }, ""),
+        ("\n%%\r\n\n\r\n", refused, ""),
+        ("table t { }\n%%\n", refused, ""),
+        (
+            "table t { index by_n(n); }\nmutation m:size() { return count(\"t\"); }\n%%\n",
+            refused,
+            "",
+        ),
+        (
+            "table t { }\nmutation m:size() { return count(\"t\"); }\nmutation m:size() { return count(\"t\"); }\n%%\n",
+            refused,
+            "",
+        ),
+        (
+            "table t { }\nmutation m:keys() { return count(\"t\"); }\n%%\n",
+            refused,
+            "",
+        ),
+        (
+            "table t { }\nmutation m:size() { return count(\"t\"); }\n%%\n%%\n",
+            Exit::Script { line: 4 },
+            "",
+        ),
+    ];
+    for (input, exit, text) in rows {
+        let (ended, written) = replayed(
+            alloc,
+            &["replay"],
+            input.as_bytes().to_vec(alloc)?,
+            &[],
+            &[],
+        )?;
+        assert_eq!(rt; ended, exit, "at {input:?}");
+        assert_eq!(rt; written.as_slice(), text.as_bytes(), "at {input:?}");
+    }
+    Ok(())
+}
+
+#[test]
+fn other_words_are_usage(rt: HostRuntime) -> Result<(), Fail> {
+    let alloc = rt.alloc();
+    let rows: [&[&str]; 4] = [&[], &["play"], &["--help"], &["replay", "replay"]];
+    for words in rows {
+        let (ended, written) = replayed(alloc, words, first_run(alloc)?, &[], &[])?;
+        assert_eq!(rt; ended, Exit::Usage);
+        assert!(rt; written.is_empty());
+    }
+    Ok(())
+}
+
+// Each stands as line 6, after two good lines of session 1, the first of which is request 1.
+#[test]
+fn bad_lines(rt: HostRuntime) -> Result<(), Fail> {
+    let alloc = rt.alloc();
+    let rows: [&[u8]; 24] = [
+        b" ",
+        b"open 0",
+        b"call",
+        b"call 00000000-0000-0000-0000-000000000001 2 m:size",
+        b"call 0000000-0000-0000-0000-000000000001 2 m:size {}",
+        b"call 00000000-0000-0000-0000-000000000001  m:size {}",
+        b"call 00000000-0000-0000-0000-000000000001 02 m:size {}",
+        b"call 00000000-0000-0000-0000-000000000001 +2 m:size {}",
+        b"call 00000000-0000-0000-0000-000000000001 4294967296 m:size {}",
+        b"call 00000000-0000-0000-0000-000000000001 2 m:none {}",
+        b"call 00000000-0000-0000-0000-000000000001 2 m:size {",
+        b"call 00000000-0000-0000-0000-000000000001 2 m:size []",
+        b"call 00000000-0000-0000-0000-000000000001 2 m:size {\"x\":1}",
+        b"call 00000000-0000-0000-0000-000000000001 2 m:add {}",
+        b"call 00000000-0000-0000-0000-000000000001 2 m:add {\"y\":1}",
+        b"call 00000000-0000-0000-0000-000000000001 2 m:add {\"x\":1,\"y\":1}",
+        b"call 00000000-0000-0000-0000-000000000001 2 m:add {\"x\":\"1\"}",
+        b"call 00000000-0000-0000-0000-000000000001 2 m:add {\"x\":1.0}",
+        b"call 00000000-0000-0000-0000-000000000001 2 m:add {\"x\":-0}",
+        b"call 00000000-0000-0000-0000-000000000001 2 m:add {\"x\":9223372036854775808}",
+        b"call 00000000-0000-0000-0000-000000000001 1 m:add {\"x\":1}",
+        b"call {00000000-0000-0000-0000-000000000001} 1 m:size {}",
+        b"call 00000000-0000-0000-0000-000000000001 2 m:size {}\xff",
+        b"%%",
+    ];
+    for line in rows {
+        let mut input = MODULE.as_bytes().to_vec(alloc)?;
+        input.extend_from_slice(
+            b"call 00000000-0000-0000-0000-000000000001 1 m:add { \"x\" : -1 }\n",
+        )?;
+        input.extend_from_slice(line)?;
+        input.extend_from_slice(b"\nopen 1\n")?;
+        let (ended, written) = replayed(alloc, &["replay"], input, &[], &[])?;
+        assert_eq!(rt; ended, Exit::Script { line: 6 }, "at {line:?}");
+        assert_eq!(rt;
+            written.as_slice(),
+            b"reply 1 ok {\"$integer\":\"//////////8=\"}\n".as_slice(),
+            "at {line:?}"
+        );
+    }
+    Ok(())
+}
+
+#[test]
+fn failing_reads_and_writes(rt: HostRuntime) -> Result<(), Fail> {
+    let alloc = rt.alloc();
+    let (ended, written) = replayed(alloc, &["replay"], first_run(alloc)?, &[], &[])?;
+    assert_eq!(rt; ended, Exit::Done);
+    assert_eq!(rt; written.as_slice(), REPLIES.as_bytes());
+    for k in 0..2u64 {
+        let (ended, written) = replayed(alloc, &["replay"], first_run(alloc)?, &[k], &[])?;
+        assert_eq!(rt; ended, Exit::Read, "at read {k}");
+        assert!(rt; written.is_empty(), "at read {k}");
+    }
+    for k in 0..4u64 {
+        let (ended, written) = replayed(alloc, &["replay"], first_run(alloc)?, &[], &[k])?;
+        assert_eq!(rt; ended, Exit::Write, "at write {k}");
+        assert!(rt; REPLIES.as_bytes().starts_with(&written), "at write {k}");
+    }
+    Ok(())
+}
+
+#[test]
+fn an_input_over_the_limit_is_too_large(rt: HostRuntime) -> Result<(), Fail> {
+    let alloc = rt.alloc();
+    let mut input = vec![in alloc; b'\n'; INPUT_LIMIT]?;
+    input.push(b'\n')?;
+    let (ended, written) = replayed(alloc, &["replay"], input, &[], &[])?;
+    assert_eq!(rt; ended, Exit::TooLarge);
+    assert!(rt; written.is_empty());
+    Ok(())
+}
+
+// The module's text and the mark are 4 lines.
+#[test]
+fn at_most_8192_lines_call(rt: HostRuntime) -> Result<(), Fail> {
+    let alloc = rt.alloc();
+    let mut input = MODULE.as_bytes().to_vec(alloc)?;
+    for request in 0..8193u32 {
+        let line = format!(in alloc;
+            "call 00000000000000000000000000000001 {request} m:add {{\"x\":{request}}}\n"
+        )?;
+        input.extend_from_slice(line.as_bytes())?;
+    }
+    let (ended, written) = replayed(alloc, &["replay"], input, &[], &[])?;
+    assert_eq!(rt; ended, Exit::Script { line: 8197 });
+    assert!(rt; written.ends_with(b"reply 8192 ok {\"$integer\":\"/x8AAAAAAAA=\"}\n"));
+    Ok(())
+}
