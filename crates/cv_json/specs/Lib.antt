@@ -1,0 +1,5 @@
+pub mod Base64
+pub mod Json
+pub mod Ranges
+pub mod Reads
+pub mod Timestamps
