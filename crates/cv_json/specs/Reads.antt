@@ -36,7 +36,7 @@ tagged_value name d =
     else (if bytes_eq name (codes "$bytes") then Some (tagged_bytes d)
     else None))
 
--- the same of any members: none, where there isn't one name alone, and that a tag
+-- the same of all members of an object: none, unless there is one name and that is a tag
 abbrev pub special : JsonMembers → Option (Result Value JsonFault)
 special json.no_members = None
 special (json.member n d json.no_members) = tagged_value n d
@@ -49,7 +49,7 @@ abbrev pub or_first : Option JsonFault → Option JsonFault → Option JsonFault
 or_first None b = b
 or_first (Some e) b = Some e
 
--- a name is empty or begins with `$`
+-- some name is empty or begins with `$`
 abbrev pub any_bad_name : JsonMembers → Bool
 any_bad_name json.no_members = false
 any_bad_name (json.member n d ms) = is_bad_name false n || any_bad_name ms
@@ -124,15 +124,16 @@ abbrev mutual
 
 -- ---- reading
 
--- a fault, or what there is without one
+-- a fault, or what is read without one
 abbrev pub unless_fault : {A : Type 0} → Option JsonFault → A → Result A JsonFault
 unless_fault None x = Ok x
 unless_fault (Some e) x = Err e
 
--- a value that isn't too large
+-- a value, unless it is too large
 abbrev pub sized : Value → Result Value JsonFault
 sized v = if nat_lt 1048576 (size_of v) then Err TooLarge else Ok v
 
+-- a fault, or a value that isn't too large
 abbrev pub then_sized : Option JsonFault → Value → Result Value JsonFault
 then_sized None v = sized v
 then_sized (Some e) v = Err e

@@ -8,8 +8,9 @@ ghost use Rattle.cv_values.specs.Sizes.{checked};
 ghost use Rattle.cv_values.specs.Value.{Value as Plain};
 ghost use Rattle.serde_json.specs.Data.{Data};
 
-/// Reading the tree of a value gives the value, if `check_value` accepts it. The premise that its
-/// numbers are in range holds of each Rust value, as a clause of [`to_json`](crate::to_json) says.
+/// Reading the tree of a value gives the value, if `check_value` accepts it. A plain value may hold
+/// any numbers, so the law asks that they be those of Rust's types. The clause `reads_back` of
+/// [`to_json`](crate::to_json) says the same of each Rust value, without that premise.
 pub fn what_is_written_is_read()
     ensures { (v : Plain) → checked false v ≡ Ok tt → IsInRange v → read (json_of v) ≡ Ok v }
 {}
