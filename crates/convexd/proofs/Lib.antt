@@ -4,7 +4,6 @@ pub mod CutLemmas
 pub mod GuessLemmas
 pub mod GuessWhole
 pub mod Held
-pub mod JsonTexts
 pub mod LineLemmas
 pub mod MapLemmas
 pub mod OneLog

@@ -39,7 +39,6 @@ impl From<Memory> for PlayFault {
     }
 }
 
-#[tactic(auto, using(crate::proofs::JsonTexts::no_float))]
 fn value_json(alloc: Global, value: &Val) -> Result<String, Memory>
     ensures { IfOk result (λ s. string_bytes s ≡ reply_json (Reply.Value value.now)) }
 {

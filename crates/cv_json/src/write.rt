@@ -8,6 +8,7 @@ ghost use Rattle.cv_values.specs.Sizes.{checked};
 ghost use Rattle.cv_values.specs.Trees.{tree};
 ghost use Rattle.cv_values.specs.Value.{values_of, members_of};
 ghost use Rattle.serde_json.specs.View.{view, items_view, members_view};
+ghost use Rattle.serde_json.specs.Written.{has_float};
 
 use base64::engine::general_purpose::STANDARD;
 use cv_values::{Fields, Memory, Val};
@@ -19,10 +20,12 @@ use std::alloc::Global;
 ///
 /// Each value is written, also one that [`from_json`](crate::from_json) refuses, as too deep or
 /// with a bad name. Of a value that `check_value` accepts, the tree is read as that value.
+#[tactic(auto, using(crate::proofs::NoFloats::no_float))]
 pub fn to_json(alloc: Global, v: &Val) -> Result<Value, Memory>
     ensures value { IfOk result (λ j. view j ≡ json_of (tree v.now)) }
     ensures reads_back { IfOk result
         (λ j. checked false (tree v.now) ≡ Ok tt → read (view j) ≡ Ok (tree v.now)) }
+    ensures no_float { IfOk result (λ j. has_float (view j) ≡ false) }
 {
     write_value(alloc, v)
 }

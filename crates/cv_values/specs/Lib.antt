@@ -2,6 +2,7 @@ pub mod Codes
 pub mod Docs
 pub mod Equality
 pub mod Hashes
+pub mod IdLaws
 pub mod Ids
 pub mod Nesting
 pub mod Order

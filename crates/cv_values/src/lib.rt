@@ -26,7 +26,7 @@ mod val;
 pub use check::{ValueFault, check_fields, check_value};
 pub use doc::{Doc, doc_value};
 pub use ids::{DocId, id_text, read_id};
-pub use laws::{equal_where_same, order_is_total};
+pub use laws::{equal_where_same, ids_and_their_texts, order_is_total};
 pub use memory::Memory;
 pub use order::{compare, compare_fields};
 pub use seq::{Copied, Seq, copy_slice};
