@@ -1,0 +1,5 @@
+pub mod Orders
+pub mod BigEndian
+pub mod Escapes
+pub mod KeyCmp
+pub mod ItemCmp

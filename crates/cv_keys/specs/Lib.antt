@@ -1,0 +1,3 @@
+pub mod Places
+pub mod KeyBytes
+pub mod KeyOrder

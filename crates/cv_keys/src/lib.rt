@@ -1,0 +1,6 @@
+//! Key bytes.
+#![tactic(auto)]
+
+mod laws;
+
+pub use laws::keys_keep_order;
