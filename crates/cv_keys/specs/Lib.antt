@@ -1,3 +1,5 @@
 pub mod Places
 pub mod KeyBytes
 pub mod KeyOrder
+pub mod Documents
+pub mod Intervals
