@@ -7,7 +7,7 @@ use Rattle.std.specs.Prelude.{FitsSigned}
 use Rattle.std.specs.Int.{w64}
 use Rattle.cv_values.specs.Order.{text_cmp, compare, values_cmp, members_cmp}
 use Rattle.cv_values.specs.Value.{Value, null, int, boolean, string, bytes, array, object, Values, no_values, value, Members, no_members, member}
-use Rattle.cv_keys.specs.KeyBytes.{raised, bytes_of, escaped, key, values_key, members_key}
+use Rattle.cv_keys.specs.KeyBytes.{raised, int_bytes, escaped, key, values_key, members_key}
 use Rattle.cv_keys.specs.KeyOrder.{IsInRange, AreInRange, MembersInRange}
 use Rattle.cv_keys.proofs.Orders.{then_assoc}
 use Rattle.cv_keys.proofs.BigEndian.{bytes_cmp}
@@ -26,12 +26,13 @@ raised_cmp (pos m) (negsuc n) h k = grind (arith, nat_tests)
 raised_cmp (negsuc m) (pos n) h k = grind (arith, nat_tests)
 raised_cmp (negsuc m) (negsuc n) h k = grind (arith, nat_tests)
 
-int_key_cmp : (m n : ℤ) → FitsSigned w64 m → FitsSigned w64 n → (xs ys : List ℕ) → cmp (bytes_of 8 (raised m) ++ xs) (bytes_of 8 (raised n) ++ ys) ≡ ordering_then (int_cmp m n) (cmp xs ys)
+int_key_cmp : (m n : ℤ) → FitsSigned w64 m → FitsSigned w64 n → (xs ys : List ℕ) → cmp (int_bytes m ++ xs) (int_bytes n ++ ys) ≡ ordering_then (int_cmp m n) (cmp xs ys)
+unfolding int_bytes
 int_key_cmp m n h k xs ys =
-    let a : raised m % 2 ^ 64 ≡ raised m = omega (arith, raised_fits m h) in
-    let b : raised n % 2 ^ 64 ≡ raised n = omega (arith, raised_fits n k) in
+    let a : raised m % 256 ^ 8 ≡ raised m = omega (arith, raised_fits m h) in
+    let b : raised n % 256 ^ 8 ≡ raised n = omega (arith, raised_fits n k) in
     bytes_cmp 8 (raised m) (raised n) xs ys
-    ∙ ap (λ x. ordering_then (nat_cmp x (raised n % 2 ^ 64)) (cmp xs ys)) a
+    ∙ ap (λ x. ordering_then (nat_cmp x (raised n % 256 ^ 8)) (cmp xs ys)) a
     ∙ ap (λ y. ordering_then (nat_cmp (raised m) y) (cmp xs ys)) b
     ∙ ap (λ o. ordering_then o (cmp xs ys)) (raised_cmp m n h k)
 

@@ -1,5 +1,6 @@
 -- The key bytes of values, of items and of lists of items.
 use Rattle.std.specs.Prelude.{ℕ, zero, suc, Bool, ◌&&◌, ◌+◌, ◌-◌, ◌*◌, ◌/◌, ◌%◌, ◌^◌, ℤ, pos, negsuc, cond, List, [], ◌∷◌, ◌++◌, Some, None}
+use Rattle.std.specs.Int.{w64, to_be_bytes}
 use Rattle.std.specs.Ordering.{is_lt, is_ge}
 use Rattle.cv_values.specs.Order.{text_cmp}
 use Rattle.cv_values.specs.Value.{Value, null, int, boolean, string, bytes, array, object, Values, no_values, value, Members, no_members, member}
@@ -10,10 +11,9 @@ abbrev pub raised : ℤ → ℕ
 raised (pos n) = 2 ^ 63 + n
 raised (negsuc n) = 2 ^ 63 - suc n
 
--- so many bytes of n, the highest first
-unfoldable pub bytes_of : ℕ → ℕ → List ℕ
-bytes_of zero n = []
-bytes_of (suc width) n = n / 2 ^ (8 * width) % 256 ∷ bytes_of width n
+-- eight bytes of it, the highest first
+unfoldable pub int_bytes : ℤ → List ℕ
+int_bytes n = to_be_bytes w64 (raised n)
 
 -- the bytes with FF behind each 00, then the end 00 01
 abbrev pub escaped : List ℕ → List ℕ
@@ -28,7 +28,7 @@ abbrev mutual
   -- a byte for the kind, 03 to 09, and then what the kind holds
   pub key : Value → List ℕ
   key null = 3 ∷ []
-  key (int n) = 4 ∷ bytes_of 8 (raised n)
+  key (int n) = 4 ∷ int_bytes n
   key (boolean b) = 5 ∷ cond b 1 0 ∷ []
   key (string s) = text_key s
   key (bytes s) = 7 ∷ escaped s

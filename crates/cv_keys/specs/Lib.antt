@@ -3,3 +3,4 @@ pub mod KeyBytes
 pub mod KeyOrder
 pub mod Documents
 pub mod Intervals
+pub mod Items

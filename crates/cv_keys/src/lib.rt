@@ -20,9 +20,14 @@
 //! The key of a list of items joins theirs. Contracts see a key as the list of its bytes.
 #![tactic(auto)]
 
+mod encode;
+
+mod ids;
 mod interval;
+mod item;
 mod key;
 mod laws;
+mod length;
 mod range;
 mod schema;
 mod write;
