@@ -4,4 +4,6 @@ pub mod Escapes
 pub mod KeyCmp
 pub mod ItemCmp
 pub mod Raised
+pub mod Meeting
+pub mod Prefixes
 pub mod Hex

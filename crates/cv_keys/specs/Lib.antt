@@ -4,3 +4,5 @@ pub mod KeyOrder
 pub mod Documents
 pub mod Intervals
 pub mod Items
+pub mod Ranges
+pub mod Meets

@@ -25,7 +25,8 @@ impl Model for Key {
     ghost view = { λ k. k.bytes.items };
 }
 
-const LAST: u8 = 255;
+/// Above each byte that a key of an item begins with.
+pub(crate) const LAST: u8 = 255;
 
 impl Key {
     /// The key of these bytes, which are not copied.

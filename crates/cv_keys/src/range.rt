@@ -32,6 +32,16 @@ pub enum RangeFault {
     Memory,
 }
 
+impl From<Memory> for RangeFault {
+    ghost use Rattle.cv_keys.specs.declared.range.RangeFault.TheVariants.{Memory as NoMemory};
+
+    ghost from_gives = { λ m f. f ≡ NoMemory };
+
+    fn from(_memory: Memory) -> RangeFault {
+        RangeFault::Memory
+    }
+}
+
 impl Range {
     /// An equal range, in memory of its own.
     pub fn copy(&self, alloc: Global) -> Result<Range, Memory>

@@ -1,0 +1,16 @@
+-- Comparing a key with a target piece by piece.
+use Rattle.std.specs.Prelude.{ℕ, List, [], ◌∷◌, Result, Ok, Err}
+use Rattle.std.specs.Ordering.{nat_cmp}
+use Rattle.std.specs.declared.cmp.Ordering.{Ordering}
+use Rattle.std.specs.declared.cmp.Ordering.TheVariants.{Less, Equal, Greater}
+
+abbrev pub met_step : Ordering → Result (List ℕ) Ordering → Result (List ℕ) Ordering
+met_step Less r = Err Less
+met_step Equal r = r
+met_step Greater r = Err Greater
+
+-- what is left of a target that begins with these bytes, or how the bytes compare with it where they part
+abbrev pub met : List ℕ → List ℕ → Result (List ℕ) Ordering
+met [] target = Ok target
+met (b ∷ bs) [] = Err Greater
+met (b ∷ bs) (c ∷ target) = met_step (nat_cmp b c) (met bs target)

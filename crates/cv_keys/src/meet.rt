@@ -1,0 +1,115 @@
+//! Comparing keys with a target as they go, so that no key is made.
+//!
+//! Each call answers what is left of a target that begins with the key's bytes, or how the key
+//! compares with the target where they part.
+ghost use Rattle.std.specs.Prelude.{◌≡◌, [], ◌∷◌, MatchResult, Ok, Err, map};
+ghost use Rattle.cv_keys.specs.KeyBytes.{key, values_key, members_key, text_key, escaped, int_bytes};
+ghost use Rattle.cv_keys.specs.Meets.{met};
+ghost use Rattle.cv_values.specs.Trees.{tree};
+ghost use Rattle.cv_values.specs.Value.{values_of, members_of};
+
+use crate::encode::int_bytes;
+use cv_values::{Fields, Val};
+use std::cmp::Ordering;
+
+fn meet_byte(byte: u8, target: &[u8]) -> Result<&[u8], Ordering>
+    ensures { MatchResult result (λ rest. met (byte ∷ []) target.now ≡ Ok rest.now) (λ o. met (byte ∷ []) target.now ≡ Err o) }
+{
+    match target.split_first() {
+        None => Err(Ordering::Greater),
+        Some((first, rest)) => match byte.cmp(first) {
+            Ordering::Less => Err(Ordering::Less),
+            Ordering::Equal => Ok(rest),
+            Ordering::Greater => Err(Ordering::Greater),
+        },
+    }
+}
+
+pub(crate) fn meet<'a>(bytes: &[u8], target: &'a [u8]) -> Result<&'a [u8], Ordering>
+    ensures { MatchResult result (λ rest. met bytes.now target.now ≡ Ok rest.now) (λ o. met bytes.now target.now ≡ Err o) }
+{
+    let mut rest = target;
+    for b in bytes {
+        rest = meet_byte(*b, rest)?;
+    }
+    Ok(rest)
+}
+
+fn meet_escaped<'a>(bytes: &[u8], target: &'a [u8]) -> Result<&'a [u8], Ordering>
+    ensures { MatchResult result (λ rest. met (escaped bytes.now) target.now ≡ Ok rest.now) (λ o. met (escaped bytes.now) target.now ≡ Err o) }
+{
+    let mut rest = target;
+    for b in bytes {
+        if *b == 0 {
+            rest = meet(&[0, 255], rest)?;
+        } else {
+            rest = meet(&[*b], rest)?;
+        }
+    }
+    meet(&[0, 1], rest)
+}
+
+/// The key of a string of these bytes.
+pub(crate) fn meet_text<'a>(text: &[u8], target: &'a [u8]) -> Result<&'a [u8], Ordering>
+    ensures { MatchResult result (λ rest. met (text_key text.now) target.now ≡ Ok rest.now) (λ o. met (text_key text.now) target.now ≡ Err o) }
+{
+    let rest = meet(&[6], target)?;
+    meet_escaped(text, rest)
+}
+
+/// The key of an integer.
+pub(crate) fn meet_int(n: i64, target: &[u8]) -> Result<&[u8], Ordering>
+    ensures { MatchResult result (λ rest. met (4 ∷ int_bytes n) target.now ≡ Ok rest.now) (λ o. met (4 ∷ int_bytes n) target.now ≡ Err o) }
+{
+    let rest = meet(&[4], target)?;
+    meet(&int_bytes(n), rest)
+}
+
+/// A value's key.
+#[cycle(meet_key)]
+pub(crate) fn meet_key<'a>(v: &Val, target: &'a [u8]) -> Result<&'a [u8], Ordering>
+    ensures { MatchResult result (λ rest. met (key (tree v.now)) target.now ≡ Ok rest.now) (λ o. met (key (tree v.now)) target.now ≡ Err o) }
+{
+    match v {
+        Val::Null => meet(&[3], target),
+        Val::Int(n) => meet_int(*n, target),
+        Val::Bool(false) => meet(&[5, 0], target),
+        Val::Bool(true) => meet(&[5, 1], target),
+        Val::Str(s) => meet_text(s.as_str().as_bytes(), target),
+        Val::Bin(b) => {
+            let rest = meet(&[7], target)?;
+            meet_escaped(b.as_slice(), rest)
+        }
+        Val::Arr(items) => {
+            let rest = meet(&[8], target)?;
+            meet_values(items.as_slice(), rest)
+        }
+        Val::Obj(fields) => {
+            let rest = meet(&[9], target)?;
+            meet_fields(fields, rest)
+        }
+    }
+}
+
+#[cycle(meet_key)]
+fn meet_values<'a>(items: &[Val], target: &'a [u8]) -> Result<&'a [u8], Ordering>
+    ensures { MatchResult result (λ rest. met (values_key (values_of (map tree items.now))) target.now ≡ Ok rest.now) (λ o. met (values_key (values_of (map tree items.now))) target.now ≡ Err o) }
+{
+    let mut rest = target;
+    for item in items {
+        rest = meet_key(item, rest)?;
+    }
+    meet(&[0], rest)
+}
+
+#[cycle(meet_key)]
+fn meet_fields<'a>(fields: &Fields, target: &'a [u8]) -> Result<&'a [u8], Ordering>
+    ensures { MatchResult result (λ rest. met (members_key (members_of fields.now)) target.now ≡ Ok rest.now) (λ o. met (members_key (members_of fields.now)) target.now ≡ Err o) }
+{
+    let mut rest = target;
+    for (name, v) in fields.as_map() {
+        rest = meet_text(name.as_str().as_bytes(), rest)?;
+        rest = meet_key(v, rest)?;
+    }
+    meet(&[0], rest)
+}
