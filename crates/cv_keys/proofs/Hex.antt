@@ -1,9 +1,10 @@
 -- Hexadecimal digits in keys.
-use Rattle.std.proofs.Common.{◌≡◌, ℕ, zero, suc, ◌+◌, ◌-◌, ◌*◌, ◌/◌, ◌%◌, ◌^◌, ◌<◌, ◌≤◌, List, [], ◌∷◌, ◌++◌, length, refl, ap, sym, ◌∙◌, append_assoc, append-nil, length-append, min, arith}
+use Rattle.std.proofs.Common.{◌≡◌, ℕ, zero, suc, ◌+◌, ◌-◌, ◌*◌, ◌/◌, ◌%◌, ◌^◌, ◌<◌, List, [], ◌∷◌, ◌++◌, length, refl, ap, ◌∙◌, append_assoc, append-nil, length-append, min, arith}
 use Rattle.std.proofs.lemmas.Bool.Decides.{nat_tests}
 use Rattle.cv_values.specs.Ids.{digit, hex_of, id_text}
 use Rattle.cv_values.specs.declared.ids.DocId.{DocId}
 use Rattle.cv_keys.specs.KeyBytes.{escaped, text_key}
+use Rattle.cv_keys.specs.Meets.{id_end}
 
 -- the digits that are left begin with the next one
 pub hex_more : (width i n : ℕ) → i < width → hex_of (width - i) n ≡ digit (n / 2 ^ (4 * (width - 1 - i)) % 16) ∷ hex_of (width - (i + 1)) n
@@ -37,7 +38,7 @@ escaped-hex_of (suc width) n s =
     let d = digit (n / 2 ^ (4 * width) % 16) in
     escaped_above d (hex_of width n ++ s) (digit_above (n / 2 ^ (4 * width) % 16)) ∙ ap (λ r. d ∷ r) (escaped-hex_of width n s)
 
-pub id_key : (id : DocId) → text_key (id_text id) ≡ 6 ∷ (hex_of 4 id.table ++ (hex_of 32 id.session ++ (hex_of 8 id.request ++ (hex_of 4 id.ordinal ++ (0 ∷ 1 ∷ [])))))
+pub id_key : (id : DocId) → text_key (id_text id) ≡ 6 ∷ id_end id
 id_key id =
     let a = hex_of 4 id.table in
     let b = hex_of 32 id.session in

@@ -1,5 +1,5 @@
 -- One item more.
-use Rattle.std.proofs.Common.{◌≡◌, ℕ, List, [], ◌∷◌, ◌++◌, ap, sym, ◌∙◌, append_assoc, append-nil}
+use Rattle.std.proofs.Common.{◌≡◌, [], ◌∷◌, ◌++◌, ap, sym, ◌∙◌, append_assoc, append-nil}
 use Rattle.cv_keys.specs.KeyBytes.{item_key, place_key}
 use Rattle.cv_keys.specs.KeyOrder.{ItemInRange, PlaceInRange}
 use Rattle.cv_keys.specs.Places.{Item, Place}

@@ -1,5 +1,5 @@
 -- The index of a number, and the place of a document in it.
-use Rattle.std.specs.Prelude.{ℕ, List, map, Option, Some, None, option_and_then, slice_get, codes, nat_eq, if◌then◌else◌}
+use Rattle.std.specs.Prelude.{ℕ, List, map, Option, Some, option_and_then, slice_get, codes, nat_eq, if◌then◌else◌}
 use Rattle.std.specs.BTreeMap.{is_at}
 use Rattle.std.specs.Cmp.Lexicographic.{slice_cmp, pointwise}
 use Rattle.std.specs.Map.{lookup}

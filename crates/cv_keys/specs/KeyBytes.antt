@@ -1,5 +1,5 @@
 -- The key bytes of values, of items and of lists of items.
-use Rattle.std.specs.Prelude.{ℕ, zero, suc, Bool, ◌&&◌, ◌+◌, ◌-◌, ◌*◌, ◌/◌, ◌%◌, ◌^◌, ℤ, pos, negsuc, cond, List, [], ◌∷◌, ◌++◌, Some, None}
+use Rattle.std.specs.Prelude.{ℕ, zero, suc, Bool, ◌&&◌, ◌+◌, ◌-◌, ◌^◌, ℤ, pos, negsuc, cond, List, [], ◌∷◌, ◌++◌, Some, None}
 use Rattle.std.specs.Int.{w64, to_be_bytes}
 use Rattle.std.specs.Ordering.{is_lt, is_ge}
 use Rattle.cv_values.specs.Order.{text_cmp}

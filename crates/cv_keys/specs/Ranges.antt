@@ -1,5 +1,5 @@
 -- The interval of a range.
-use Rattle.std.specs.Prelude.{ℕ, ◌+◌, Bool, true, false, nat_lt, if◌then◌else◌, List, [], ◌∷◌, ◌++◌, map, length, Option, Some, None, Result, Ok, Err}
+use Rattle.std.specs.Prelude.{ℕ, ◌+◌, Bool, true, false, nat_lt, if◌then◌else◌, [], ◌∷◌, ◌++◌, map, length, Option, Some, None, Result, Ok, Err}
 use Rattle.cv_values.specs.Trees.{tree}
 use Rattle.cv_values.specs.Value.{Value}
 use Rattle.cv_keys.specs.Documents.{index_at}

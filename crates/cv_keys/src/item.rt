@@ -1,15 +1,19 @@
 //! What a document has at the fields of an index.
-ghost use Rattle.std.specs.Prelude.{◌≡◌, ◌++◌, ◌+◌, ◌-◌, ◌^◌, OnOk, min, length};
+ghost use Rattle.std.specs.Prelude.{◌≡◌, ◌++◌, ◌+◌, ◌-◌, ◌^◌, OnOk, MatchResult, Ok, Err, min, length};
+ghost use Rattle.cv_values.specs.Order.{text_cmp};
+ghost use Rattle.cv_keys.specs.Meets.{met};
 ghost use Rattle.cv_keys.specs.Documents.{item_at, place};
 ghost use Rattle.cv_keys.specs.Items.{shown};
 ghost use Rattle.cv_keys.specs.KeyBytes.{item_key, place_key};
 ghost use Rattle.cv_keys.specs.KeyOrder.{ItemInRange, PlaceInRange};
 
 use crate::encode::{put, put_int, put_key};
-use crate::ids::{ID_KEY_LEN, put_id};
+use crate::ids::{ID_KEY_LEN, meet_id, put_id};
 use crate::length::key_len;
+use crate::meet::{meet, meet_int, meet_key};
 use crate::schema::Index;
 use cv_values::{Doc, DocId, Memory, Text, Val};
+use std::cmp::Ordering;
 
 /// What a document has at a field of an index, without a copy.
 #[derive(Drop)]
@@ -79,4 +83,38 @@ pub(crate) fn put_place(out: &mut Vec<u8>, doc: &Doc, index: &Index) -> Result<(
         put_item(out, &item_at(doc, field))?;
     }
     Ok(())
+}
+
+fn meet_item<'a>(item: &Item, target: &'a [u8]) -> Result<&'a [u8], Ordering>
+    ensures { MatchResult result (λ rest. met (item_key (shown item.now)) target.now ≡ Ok rest.now) (λ o. met (item_key (shown item.now)) target.now ≡ Err o) }
+{
+    match item {
+        Item::Missing => meet(&[2], target),
+        Item::Id(id) => meet_id(id, target),
+        Item::Creation(n) => meet_int(*n, target),
+        Item::Field(v) => meet_key(v, target),
+    }
+}
+
+/// How the key of a document's place compares with a target. It makes no key.
+#[tactic(auto, using(crate::proofs::Meeting::apart_cmp, crate::proofs::Meeting::equal_cmp, crate::proofs::Meeting::less_cmp))]
+pub(crate) fn place_order(doc: &Doc, index: &Index, target: &[u8]) -> Ordering
+    ensures { result ≡ text_cmp (place_key (place doc.now index.now)) target.now }
+{
+    match meet_place(doc, index, target) {
+        Err(order) => order,
+        Ok(rest) if rest.is_empty() => Ordering::Equal,
+        Ok(_) => Ordering::Less,
+    }
+}
+
+#[tactic(auto, using(crate::proofs::Meeting::met_both, std::proofs::lemmas::Grind::common_steps))]
+fn meet_place<'a>(doc: &Doc, index: &Index, target: &'a [u8]) -> Result<&'a [u8], Ordering>
+    ensures { MatchResult result (λ rest. met (place_key (place doc.now index.now)) target.now ≡ Ok rest.now) (λ o. met (place_key (place doc.now index.now)) target.now ≡ Err o) }
+{
+    let mut rest = target;
+    for field in index.fields.as_slice() {
+        rest = meet_item(&item_at(doc, field), rest)?;
+    }
+    Ok(rest)
 }

@@ -91,6 +91,7 @@ pub(crate) fn meet_key<'a>(v: &Val, target: &'a [u8]) -> Result<&'a [u8], Orderi
     }
 }
 
+#[tactic(auto, using(crate::proofs::Meeting::met_both, std::proofs::lemmas::Grind::common_steps))]
 #[cycle(meet_key)]
 fn meet_values<'a>(items: &[Val], target: &'a [u8]) -> Result<&'a [u8], Ordering>
     ensures { MatchResult result (λ rest. met (values_key (values_of (map tree items.now))) target.now ≡ Ok rest.now) (λ o. met (values_key (values_of (map tree items.now))) target.now ≡ Err o) }
@@ -102,6 +103,7 @@ fn meet_values<'a>(items: &[Val], target: &'a [u8]) -> Result<&'a [u8], Ordering
     meet(&[0], rest)
 }
 
+#[tactic(auto, using(crate::proofs::Meeting::met_both))]
 #[cycle(meet_key)]
 fn meet_fields<'a>(fields: &Fields, target: &'a [u8]) -> Result<&'a [u8], Ordering>
     ensures { MatchResult result (λ rest. met (members_key (members_of fields.now)) target.now ≡ Ok rest.now) (λ o. met (members_key (members_of fields.now)) target.now ≡ Err o) }

@@ -1,4 +1,4 @@
-use Rattle.std.proofs.Common.{◌≡◌, ◌++◌, ◌∷◌, [], ◌∙◌, ap, append_assoc}
+use Rattle.std.proofs.Common.{◌++◌, ◌∷◌, [], ◌∙◌, ap, append_assoc}
 use Rattle.cv_values.specs.Ids.{hex_of}
 use Rattle.cv_keys.proofs.Hex.{id_key}
 use Rattle.cv_keys.proofs.ids.put_id.Goals as goal

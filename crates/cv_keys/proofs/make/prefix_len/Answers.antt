@@ -1,4 +1,4 @@
-use Rattle.std.proofs.Common.{◌≡◌, ◌+◌, length, map, Some, ◌∙◌, ap, arith, length-append}
+use Rattle.std.proofs.Common.{map, Some, arith, length-append}
 use Rattle.cv_keys.specs.KeyBytes.{key, place_key}
 use Rattle.cv_keys.proofs.Prefixes.{place_key_last}
 use Rattle.cv_values.specs.Trees.{tree}
