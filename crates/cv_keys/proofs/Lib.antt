@@ -7,3 +7,4 @@ pub mod Raised
 pub mod Meeting
 pub mod Prefixes
 pub mod Hex
+pub mod Touching

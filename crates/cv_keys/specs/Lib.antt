@@ -6,3 +6,4 @@ pub mod Intervals
 pub mod Items
 pub mod Ranges
 pub mod Meets
+pub mod Touch

@@ -40,4 +40,4 @@ pub use laws::keys_keep_order;
 pub use make::{index_key, interval_of, key_of};
 pub use range::{Bound, Range, RangeFault};
 pub use schema::{Index, Schema, Table};
-pub use write::Write;
+pub use write::{Write, touches};

@@ -1,5 +1,9 @@
-ghost use Rattle.std.specs.Prelude.{◌≡◌, IfOk};
+ghost use Rattle.std.specs.Prelude.{◌≡◌, IfOk, Some};
+ghost use Rattle.cv_keys.specs.Touch.{touches, has_key_in};
 
+use crate::interval::Interval;
+use crate::item::place_order;
+use crate::schema::{Index, Schema};
 use cv_values::{Copied, Doc, DocId, Memory};
 use std::alloc::Global;
 
@@ -28,5 +32,33 @@ impl Write {
 impl Copied for Write {
     fn copy(&self, alloc: Global) -> Result<Write, Memory> {
         Write::copy(self, alloc)
+    }
+}
+
+/// Whether a write touches an interval: it is one of the interval's table, and the key of the place
+/// of its old or of its new document lies in the interval. Where there is no such table or index, it
+/// doesn't touch. It compares the documents with the interval's ends as it goes: it makes no key and
+/// takes no memory.
+pub fn touches(schema: &Schema, w: &Write, i: &Interval) -> bool
+    ensures { result ≡ touches schema.now w.now i.now }
+{
+    if u32::from(w.id.table) != i.table {
+        return false;
+    }
+    match schema.index_at(i.table, i.index) {
+        None => false,
+        Some(index) => has_key_in(index, i, &w.old) || has_key_in(index, i, &w.new),
+    }
+}
+
+fn has_key_in(index: &Index, i: &Interval, doc: &Option<Doc>) -> bool
+    ensures { result ≡ has_key_in (Some index.now) i.now doc.now }
+{
+    match doc {
+        None => false,
+        Some(doc) => {
+            place_order(doc, index, i.lo.as_slice()).is_ge()
+                && place_order(doc, index, i.hi.as_slice()).is_lt()
+        }
     }
 }
