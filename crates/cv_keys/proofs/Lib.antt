@@ -8,3 +8,5 @@ pub mod Meeting
 pub mod Prefixes
 pub mod Hex
 pub mod Touching
+pub mod ReadHex
+pub mod ReadIds

@@ -7,3 +7,4 @@ pub mod Items
 pub mod Ranges
 pub mod Meets
 pub mod Touch
+pub mod KeyIds

@@ -1,10 +1,13 @@
 //! The digits of ids, without memory for their text.
-ghost use Rattle.std.specs.Prelude.{◌≡◌, ◌++◌, ◌<◌, ◌≤◌, OnOk, MatchResult, Ok, Err};
+ghost use Rattle.std.specs.Prelude.{◌≡◌, ◌≢◌, ◌++◌, ◌^◌, ◌<◌, ◌≤◌, OnOk, MatchResult, Ok, Err, IfSome, IfNone, option_map};
+ghost use Rattle.cv_keys.specs.KeyIds.{IsId, read_digits, id_from, id_in};
+ghost use Rattle.cv_values.specs.declared.ids.DocId.{DocId as Id};
 ghost use Rattle.cv_keys.specs.Meets.{met, id_end};
 ghost use Rattle.cv_keys.specs.KeyBytes.{text_key};
-ghost use Rattle.cv_values.specs.Ids.{digit, hex_of, id_text};
+ghost use Rattle.cv_values.specs.Ids.{digit, digit_value, hex_of, id_text};
 
 use crate::encode::put;
+use crate::key::Key;
 use crate::meet::meet;
 use cv_values::{DocId, Memory};
 use std::cmp::Ordering;
@@ -76,4 +79,69 @@ pub(crate) fn meet_id<'a>(id: &DocId, target: &'a [u8]) -> Result<&'a [u8], Orde
 {
     let rest = meet(&[6], target)?;
     meet_digits(id, rest)
+}
+
+fn digit_value(c: u8) -> Option<u8>
+    ensures value { result ≡ digit_value c }
+    ensures below { IfSome result (λ d. d < 16) }
+{
+    match c {
+        b'0'..=b'9' => Some(c - b'0'),
+        b'a'..=b'f' => Some(c - b'a' + 10),
+        _ => None,
+    }
+}
+
+// The number that the first so many digits are, and the bytes behind them.
+fn take_hex(bytes: &[u8], width: u32) -> Option<(u128, &[u8])>
+    requires { width ≤ 32 }
+    ensures value { option_map (λ r. (r.0, r.1.now)) result ≡ read_digits width 0 bytes.now }
+    ensures below { IfSome result (λ r. r.0 < 16 ^ width) }
+{
+    let mut number = 0u128;
+    let mut rest = bytes;
+    for _i in 0..width {
+        let (c, more) = rest.split_first()?;
+        let d = digit_value(*c)?;
+        number = number * 16 + u128::from(d);
+        rest = more;
+    }
+    Some((number, rest))
+}
+
+fn id_from(bytes: &[u8]) -> Option<DocId>
+    ensures { result ≡ id_from bytes.now }
+{
+    let (table, rest) = take_hex(bytes, 4)?;
+    let (session, rest) = take_hex(rest, 32)?;
+    let (request, rest) = take_hex(rest, 8)?;
+    let (ordinal, rest) = take_hex(rest, 4)?;
+    if rest != [0, 1].as_slice() {
+        return None;
+    }
+    Some(DocId {
+        table: table as u16,
+        session,
+        request: request as u32,
+        ordinal: ordinal as u16,
+    })
+}
+
+fn id_in(bytes: &[u8]) -> Option<DocId>
+    ensures { result ≡ id_in bytes.now }
+{
+    match bytes.split_first() {
+        Some((6, rest)) => id_from(rest),
+        _ => None,
+    }
+}
+
+/// The id whose text, as a string, has this key, or none exactly where there is none. It takes no
+/// memory.
+pub fn id_of(key: &Key) -> Option<DocId>
+    ensures some { IfSome result (λ id. key.now ≡ text_key (id_text id)) }
+    ensures one { IfSome result (λ id. (other : Id) → IsId other → key.now ≡ text_key (id_text other) → other ≡ id) }
+    ensures none { IfNone result ((id : Id) → key.now ≢ text_key (id_text id)) }
+{
+    id_in(key.as_slice())
 }

@@ -34,6 +34,7 @@ mod range;
 mod schema;
 mod write;
 
+pub use ids::id_of;
 pub use interval::{Interval, contains};
 pub use key::Key;
 pub use laws::keys_keep_order;
