@@ -30,7 +30,7 @@ bytes_cmp (suc w) m n xs ys =
     let p = 256 ^ w in
     let first = nat_cmp (byte_at w m) (byte_at w n) in
     let both : nat_cmp (m % 256 ^ suc w) (n % 256 ^ suc w) ≡ ordering_then first (nat_cmp (m % p) (n % p)) =
-        ap (λ x. nat_cmp x (n % 256 ^ suc w)) (low w m) ∙ ap (λ y. nat_cmp (byte_at w m * p + m % p) y) (low w n)
-        ∙ digits_cmp p (byte_at w m) (m % p) (byte_at w n) (n % p) (mod_below m p (power_above w)) (mod_below n p (power_above w)) in
+    ap (λ x. nat_cmp x (n % 256 ^ suc w)) (low w m) ∙ ap (λ y. nat_cmp (byte_at w m * p + m % p) y) (low w n)
+    ∙ digits_cmp p (byte_at w m) (m % p) (byte_at w n) (n % p) (mod_below m p (power_above w)) (mod_below n p (power_above w)) in
     ap (ordering_then first) (bytes_cmp w m n xs ys) ∙ sym (then_assoc first (nat_cmp (m % p) (n % p)) (text_cmp xs ys))
     ∙ ap (λ o. ordering_then o (text_cmp xs ys)) (sym both)

@@ -6,18 +6,6 @@ use Rattle.cv_values.specs.declared.ids.DocId.{DocId}
 use Rattle.cv_keys.specs.KeyBytes.{escaped, text_key}
 use Rattle.cv_keys.specs.Meets.{id_end}
 
--- the digits that are left begin with the next one
-pub hex_more : (width i n : ℕ) → i < width → hex_of (width - i) n ≡ digit (n / 2 ^ (4 * (width - 1 - i)) % 16) ∷ hex_of (width - (i + 1)) n
-unfolding hex_of
-hex_more width i n h =
-    let e : width - i ≡ suc (width - (i + 1)) = omega arith in
-    let f : width - (i + 1) ≡ width - 1 - i = omega arith in
-    rw e (ap (λ k. digit (n / 2 ^ (4 * k) % 16) ∷ hex_of (width - (i + 1)) n) f)
-
-pub hex_none : (n : ℕ) → hex_of 0 n ≡ []
-unfolding hex_of
-hex_none n = refl
-
 pub length-hex_of : (width n : ℕ) → length (hex_of width n) ≡ width
 unfolding hex_of
 length-hex_of zero n = refl
@@ -47,9 +35,9 @@ id_key id =
     let flat : id_text id ≡ a ++ (b ++ (c ++ (d ++ []))) = simp (append_assoc, append-nil) in
     ap text_key flat
     ∙ ap (λ r. 6 ∷ r) (escaped-hex_of 4 id.table (b ++ (c ++ (d ++ [])))
-        ∙ ap (λ r. a ++ r) (escaped-hex_of 32 id.session (c ++ (d ++ []))
-        ∙ ap (λ r. b ++ r) (escaped-hex_of 8 id.request (d ++ [])
-        ∙ ap (λ r. c ++ r) (escaped-hex_of 4 id.ordinal []))))
+    ∙ ap (λ r. a ++ r) (escaped-hex_of 32 id.session (c ++ (d ++ []))
+    ∙ ap (λ r. b ++ r) (escaped-hex_of 8 id.request (d ++ [])
+    ∙ ap (λ r. c ++ r) (escaped-hex_of 4 id.ordinal []))))
 
 pub length-id_key : (id : DocId) → length (text_key (id_text id)) ≡ 51
 length-id_key id =
@@ -58,8 +46,17 @@ length-id_key id =
     let c = hex_of 8 id.request in
     let d = hex_of 4 id.ordinal in
     ap length (id_key id)
-    ∙ omega (arith, length-append a (b ++ (c ++ (d ++ (0 ∷ 1 ∷ [])))), length-append b (c ++ (d ++ (0 ∷ 1 ∷ []))), length-append c (d ++ (0 ∷ 1 ∷ [])), length-append d (0 ∷ 1 ∷ []),
-        length-hex_of 4 id.table, length-hex_of 32 id.session, length-hex_of 8 id.request, length-hex_of 4 id.ordinal)
+    ∙ omega (
+      arith,
+      length-append a (b ++ (c ++ (d ++ (0 ∷ 1 ∷ [])))),
+      length-append b (c ++ (d ++ (0 ∷ 1 ∷ []))),
+      length-append c (d ++ (0 ∷ 1 ∷ [])),
+      length-append d (0 ∷ 1 ∷ []),
+      length-hex_of 4 id.table,
+      length-hex_of 32 id.session,
+      length-hex_of 8 id.request,
+      length-hex_of 4 id.ordinal,
+    )
 
 pub id_key_fits : (id : DocId) → 51 ≡ min (length (text_key (id_text id))) (2 ^ 64 - 1)
 id_key_fits id = omega (arith, length-id_key id)

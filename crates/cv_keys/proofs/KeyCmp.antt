@@ -94,6 +94,6 @@ mutual
       ∙ parts (escaped m) (key v) (members_key vs ++ xs) (escaped n) (key w) (members_key ws ++ ys)
       ∙ escaped_cmp m n (key v ++ (members_key vs ++ xs)) (key w ++ (members_key ws ++ ys))
       ∙ ap (ordering_then (cmp m n)) (key_cmp v w h.0 k.0 (members_key vs ++ xs) (members_key ws ++ ys)
-          ∙ ap (ordering_then (compare v w)) (members_key_cmp vs ws h.1 k.1 xs ys))
+      ∙ ap (ordering_then (compare v w)) (members_key_cmp vs ws h.1 k.1 xs ys))
       ∙ sym (then_assoc (cmp m n) (compare v w) (ordering_then (members_cmp vs ws) (cmp xs ys)))
       ∙ sym (then_assoc (ordering_then (cmp m n) (compare v w)) (members_cmp vs ws) (cmp xs ys))

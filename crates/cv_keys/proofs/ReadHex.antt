@@ -103,10 +103,11 @@ read_sound (suc w) n (c ∷ bytes) m rest e = go (digit_value c) refl (λ d f. r
         let more : 16 ^ suc w ≡ 16 * 16 ^ w = omega arith in
         let room : d * 16 ^ w + others.low < 16 ^ w * 16 = mul-add-lt d (16 ^ w) others.low 16 fits others.below in
         record {
-            low = d * 16 ^ w + others.low;
-            below = omega (arith, room, more);
-            number = others.number ∙ moved (16 ^ w) n d others.low ∙ ap (λ k. n * k + (d * 16 ^ w + others.low)) (sym more);
-            parts = ap (λ x. x ∷ bytes) (sym (digit_back c d some)) ∙ ap (λ l. digit d ∷ l) others.parts ∙ sym (ap (λ l. l ++ rest) (hex_first w d others.low fits others.below)) }
+          low = d * 16 ^ w + others.low;
+          below = omega (arith, room, more);
+          number = others.number ∙ moved (16 ^ w) n d others.low ∙ ap (λ k. n * k + (d * 16 ^ w + others.low)) (sym more);
+          parts = ap (λ x. x ∷ bytes) (sym (digit_back c d some)) ∙ ap (λ l. digit d ∷ l) others.parts ∙ sym (ap (λ l. l ++ rest) (hex_first w d others.low fits others.below));
+        }
 
 -- the same from nothing read
 pub read_whole : (w : ℕ) (bytes : List ℕ) (m : ℕ) (rest : List ℕ) → read_digits w 0 bytes ≡ Some (m, rest) → (m < 16 ^ w) × (bytes ≡ hex_of w m ++ rest)

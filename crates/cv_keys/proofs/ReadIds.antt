@@ -27,12 +27,12 @@ id_from_sound bytes id e =
     option_and_then_some _ (read_digits 8 0 session.1) id f₂ (λ request e₃ f₃.
     option_and_then_some _ (read_digits 4 0 request.1) id f₃ (λ ordinal e₄ f₄.
     if_some (pointwise nat_eq ordinal.1 (0 ∷ 1 ∷ [])) _ id f₄ (λ last same.
-        (read_whole 4 bytes table.0 table.1 e₁).1
-        ∙ ap (λ r. hex_of 4 table.0 ++ r) ((read_whole 32 table.1 session.0 session.1 e₂).1
-        ∙ ap (λ r. hex_of 32 session.0 ++ r) ((read_whole 8 session.1 request.0 request.1 e₃).1
-        ∙ ap (λ r. hex_of 8 request.0 ++ r) ((read_whole 4 request.1 ordinal.0 ordinal.1 e₄).1
-        ∙ ap (λ r. hex_of 4 ordinal.0 ++ r) (same_text ordinal.1 (0 ∷ 1 ∷ []) (sym last)))))
-        ∙ ap id_end same)))))
+    (read_whole 4 bytes table.0 table.1 e₁).1
+    ∙ ap (λ r. hex_of 4 table.0 ++ r) ((read_whole 32 table.1 session.0 session.1 e₂).1
+    ∙ ap (λ r. hex_of 32 session.0 ++ r) ((read_whole 8 session.1 request.0 request.1 e₃).1
+    ∙ ap (λ r. hex_of 8 request.0 ++ r) ((read_whole 4 request.1 ordinal.0 ordinal.1 e₄).1
+    ∙ ap (λ r. hex_of 4 ordinal.0 ++ r) (same_text ordinal.1 (0 ∷ 1 ∷ []) (sym last)))))
+    ∙ ap id_end same)))))
 
 pub id_in_sound : (bytes : List ℕ) (id : DocId) → id_in bytes ≡ Some id → bytes ≡ text_key (id_text id)
 id_in_sound [] id e = cc

@@ -3,7 +3,7 @@ use Rattle.std.specs.Prelude.{◌≡◌, ℕ, List, [], ◌∷◌, ◌++◌, Som
 use Rattle.std.specs.Int.{w64}
 use Rattle.cv_values.specs.Order.{text_cmp, compare_items}
 use Rattle.cv_values.specs.Value.{Value, null, int, boolean, string, bytes, array, object, Values, no_values, value, Members, no_members, member}
-use Rattle.cv_keys.specs.Places.{Item, Place, place_cmp, End, below, above, Stretch, lies_in}
+use Rattle.cv_keys.specs.Places.{Item, Place, place_cmp, End, below, above, PlaceInterval, lies_in}
 use Rattle.cv_keys.specs.KeyBytes.{item_key, place_key, end_key, is_between}
 
 abbrev mutual
@@ -55,4 +55,4 @@ PlacesGoByKeys = (p q : Place) → PlaceInRange p → PlaceInRange q → text_cm
 
 -- a place lies in an interval exactly where its key is at least that of lo and below that of hi
 abbrev pub IntervalsHoldByKeys : Type 0
-IntervalsHoldByKeys = (r : Place) (i : Stretch) → PlaceInRange r → EndInRange i.lo → EndInRange i.hi → lies_in r i ≡ is_between (place_key r) (end_key i.lo) (end_key i.hi)
+IntervalsHoldByKeys = (r : Place) (i : PlaceInterval) → PlaceInRange r → EndInRange i.lo → EndInRange i.hi → lies_in r i ≡ is_between (place_key r) (end_key i.lo) (end_key i.hi)

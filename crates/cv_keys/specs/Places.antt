@@ -33,11 +33,11 @@ is_over r (below q) = is_ge (place_cmp r q)
 is_over r (above q) = is_gt (place_cmp r q) && not (begins_with r q)
 
 -- the places over lo and not over hi, in one index of one table
-pub record Stretch : Type 0 where
+pub record PlaceInterval : Type 0 where
   pub table : ℕ
   pub index : ℕ
   pub lo : End
   pub hi : End
 
-abbrev pub lies_in : Place → Stretch → Bool
+abbrev pub lies_in : Place → PlaceInterval → Bool
 lies_in r i = is_over r i.lo && not (is_over r i.hi)

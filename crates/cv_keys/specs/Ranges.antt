@@ -4,7 +4,7 @@ use Rattle.cv_values.specs.Trees.{tree}
 use Rattle.cv_values.specs.Value.{Value}
 use Rattle.cv_keys.specs.Documents.{index_at}
 use Rattle.cv_keys.specs.Intervals.{in_bytes}
-use Rattle.cv_keys.specs.Places.{Place, End, below, above, Stretch}
+use Rattle.cv_keys.specs.Places.{Place, End, below, above, PlaceInterval}
 use Rattle.cv_keys.specs.declared.interval.Interval.{Interval}
 use Rattle.cv_keys.specs.declared.range.Bound.{Bound}
 use Rattle.cv_keys.specs.declared.range.Bound.TheVariants.{None as Unbounded, Including, Excluding}
@@ -37,8 +37,8 @@ upper_end p (Including v) = above (p ++ Some (tree v) ∷ [])
 upper_end p (Excluding v) = below (p ++ Some (tree v) ∷ [])
 
 -- the places that begin with the values and go on between the bounds
-abbrev pub stretch_of : Range → Stretch
-stretch_of r = record { table = r.table; index = r.index; lo = lower_end (map Some r.equal) r.lower; hi = upper_end (map Some r.equal) r.upper }
+abbrev pub range_interval : Range → PlaceInterval
+range_interval r = record { table = r.table; index = r.index; lo = lower_end (map Some r.equal) r.lower; hi = upper_end (map Some r.equal) r.upper }
 
 -- one field more is needed where there is a bound
 abbrev pub bound_fields : Bound → Bound → ℕ
@@ -49,7 +49,7 @@ abbrev pub interval_in : Option Index → Range → Result Interval RangeFault
 interval_in None r = Err NoIndex
 interval_in (Some index) r =
     if nat_lt (length index.fields) (length r.equal + bound_fields r.lower r.upper) then Err NoField
-    else Ok (in_bytes (stretch_of r))
+    else Ok (in_bytes (range_interval r))
 
 abbrev pub interval_of : Schema → Range → Result Interval RangeFault
 interval_of schema r = interval_in (index_at schema r.table r.index) r

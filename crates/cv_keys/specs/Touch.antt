@@ -5,20 +5,20 @@ use Rattle.cv_keys.specs.Documents.{index_at, place}
 use Rattle.cv_keys.specs.Intervals.{in_bytes}
 use Rattle.cv_keys.specs.KeyBytes.{place_key, is_between}
 use Rattle.cv_keys.specs.KeyOrder.{PlaceInRange, EndInRange}
-use Rattle.cv_keys.specs.Places.{Stretch, lies_in}
+use Rattle.cv_keys.specs.Places.{PlaceInterval, lies_in}
 use Rattle.cv_keys.specs.declared.interval.Interval.{Interval}
 use Rattle.cv_keys.specs.declared.schema.Index.{Index}
 use Rattle.cv_keys.specs.declared.schema.Schema.{Schema}
 use Rattle.cv_keys.specs.declared.write.Write.{Write}
 
 -- the document, if any, has its place in the interval
-abbrev pub is_in : Option Index → Stretch → Option Doc → Bool
+abbrev pub is_in : Option Index → PlaceInterval → Option Doc → Bool
 is_in None i d = false
 is_in (Some index) i None = false
 is_in (Some index) i (Some d) = lies_in (place d index) i
 
 -- the write is one of the table, and its old or its new document lies in the interval
-abbrev pub touches_places : Schema → Write → Stretch → Bool
+abbrev pub touches_places : Schema → Write → PlaceInterval → Bool
 touches_places schema w i =
     let index = index_at schema i.table i.index in
     (w.id.table == i.table) && (is_in index i w.old || is_in index i w.new)
@@ -42,6 +42,6 @@ DocInRange (Some index) (Some d) = PlaceInRange (place d index)
 
 -- a write touches the bytes of an interval exactly where it touches the interval
 abbrev pub TouchGoesByKeys : Type 0
-TouchGoesByKeys = (schema : Schema) (w : Write) (i : Stretch)
+TouchGoesByKeys = (schema : Schema) (w : Write) (i : PlaceInterval)
     → DocInRange (index_at schema i.table i.index) w.old → DocInRange (index_at schema i.table i.index) w.new → EndInRange i.lo → EndInRange i.hi
     → touches schema w (in_bytes i) ≡ touches_places schema w i

@@ -21,7 +21,6 @@
 #![tactic(auto)]
 
 mod encode;
-
 mod ids;
 mod interval;
 mod item;
@@ -32,6 +31,8 @@ mod make;
 mod meet;
 mod range;
 mod schema;
+#[cfg(test)]
+mod tests;
 mod write;
 
 pub use ids::id_of;

@@ -3,7 +3,7 @@ ghost use Rattle.std.specs.Prelude.{◌≡◌, ◌≢◌, ◌∷◌, ◌++◌, �
 ghost use Rattle.cv_keys.specs.Documents.{place};
 ghost use Rattle.cv_keys.specs.KeyBytes.{key, place_key, end_key};
 ghost use Rattle.cv_keys.specs.KeyOrder.{IsInRange, PlaceInRange, EndInRange};
-ghost use Rattle.cv_keys.specs.Ranges.{prefix, lower_end, upper_end, end_at, bound_fields, interval_of, stretch_of};
+ghost use Rattle.cv_keys.specs.Ranges.{prefix, lower_end, upper_end, end_at, bound_fields, interval_of, range_interval};
 ghost use Rattle.cv_values.specs.Trees.{tree};
 
 use crate::encode::{put, put_key};
@@ -139,7 +139,7 @@ pub fn interval_of(alloc: Global, schema: &Schema, range: &Range) -> Result<Inte
     ensures ok { IfOk result (λ i. interval_of schema.now range.now ≡ Ok i) }
     ensures err { IfErr result (λ e. e ≢ RangeFault.Memory → interval_of schema.now range.now ≡ Err e) }
     ensures memory { IsErrOf result RangeFault.Memory → IsOk (interval_of schema.now range.now) }
-    ensures in_range { OnOk result (EndInRange (stretch_of range.now).lo × EndInRange (stretch_of range.now).hi) }
+    ensures in_range { OnOk result (EndInRange (range_interval range.now).lo × EndInRange (range_interval range.now).hi) }
 {
     let Some(index) = schema.index_at(range.table, range.index) else {
         return Err(RangeFault::NoIndex);

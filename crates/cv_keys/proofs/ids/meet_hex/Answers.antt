@@ -2,7 +2,7 @@ use Rattle.std.proofs.Common.{◌≡◌, ◌+◌, ◌-◌, ◌∷◌, [], sym, a
 use Rattle.std.proofs.lemmas.Result.{err_from_is_err_and}
 use Rattle.cv_keys.specs.Meets.{met}
 use Rattle.cv_values.specs.Ids.{hex_of}
-use Rattle.cv_keys.proofs.Hex.{hex_more, hex_none}
+use Rattle.cv_values.proofs.Hex.{hex_more, hex_none}
 use Rattle.cv_keys.proofs.Meeting.{met_on, met_apart}
 use Rattle.cv_keys.proofs.ids.meet_hex.Goals as goal
 

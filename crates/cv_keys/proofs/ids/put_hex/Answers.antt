@@ -1,6 +1,6 @@
 use Rattle.std.proofs.Common.{◌≡◌, ◌+◌, ◌-◌, ◌++◌, ◌∷◌, [], sym, ap, ◌∙◌, append_assoc, append-nil, arith}
 use Rattle.cv_values.specs.Ids.{hex_of}
-use Rattle.cv_keys.proofs.Hex.{hex_more, hex_none}
+use Rattle.cv_values.proofs.Hex.{hex_more, hex_none}
 use Rattle.cv_keys.proofs.ids.put_hex.Goals as goal
 
 pub loop-i-preserved : goal.loop-i-preserved
