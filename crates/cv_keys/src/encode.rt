@@ -5,6 +5,9 @@ ghost use Rattle.cv_keys.specs.KeyOrder.{IsInRange, AreInRange, MembersInRange};
 ghost use Rattle.cv_values.specs.Trees.{tree};
 ghost use Rattle.cv_values.specs.Value.{values_of, members_of};
 
+use crate::kinds::{
+    ARRAY, ARRAY_END, BOOLEAN, BYTES, ESCAPE, INTEGER, NULL, OBJECT, OBJECT_END, STRING, STRING_END,
+};
 use cv_values::{Fields, Memory, Val};
 
 const SIGN_BIT: u64 = 0x8000_0000_0000_0000;
@@ -28,19 +31,19 @@ fn put_escaped(out: &mut Vec<u8>, bytes: &[u8]) -> Result<(), Memory>
 {
     for b in bytes {
         if *b == 0 {
-            put(out, &[0, 255])?;
+            put(out, &[0, ESCAPE])?;
         } else {
             put(out, &[*b])?;
         }
     }
-    put(out, &[0, 1])
+    put(out, &[0, STRING_END])
 }
 
 /// Writes the key of a string of these bytes.
 pub(crate) fn put_text(out: &mut Vec<u8>, text: &[u8]) -> Result<(), Memory>
     ensures { OnOk result (out.new.items ≡ out.old.items ++ text_key text.now) }
 {
-    put(out, &[6])?;
+    put(out, &[STRING])?;
     put_escaped(out, text)
 }
 
@@ -48,7 +51,7 @@ pub(crate) fn put_text(out: &mut Vec<u8>, text: &[u8]) -> Result<(), Memory>
 pub(crate) fn put_int(out: &mut Vec<u8>, n: i64) -> Result<(), Memory>
     ensures { OnOk result (out.new.items ≡ out.old.items ++ 4 ∷ int_bytes n) }
 {
-    put(out, &[4])?;
+    put(out, &[INTEGER])?;
     put(out, &int_bytes(n))
 }
 
@@ -59,21 +62,21 @@ pub(crate) fn put_key(out: &mut Vec<u8>, v: &Val) -> Result<(), Memory>
     ensures in_range { OnOk result (IsInRange (tree v.now)) }
 {
     match v {
-        Val::Null => put(out, &[3]),
+        Val::Null => put(out, &[NULL]),
         Val::Int(n) => put_int(out, *n),
-        Val::Bool(false) => put(out, &[5, 0]),
-        Val::Bool(true) => put(out, &[5, 1]),
+        Val::Bool(false) => put(out, &[BOOLEAN, 0]),
+        Val::Bool(true) => put(out, &[BOOLEAN, 1]),
         Val::Str(s) => put_text(out, s.as_str().as_bytes()),
         Val::Bin(b) => {
-            put(out, &[7])?;
+            put(out, &[BYTES])?;
             put_escaped(out, b.as_slice())
         }
         Val::Arr(items) => {
-            put(out, &[8])?;
+            put(out, &[ARRAY])?;
             put_values(out, items.as_slice())
         }
         Val::Obj(fields) => {
-            put(out, &[9])?;
+            put(out, &[OBJECT])?;
             put_fields(out, fields)
         }
     }
@@ -87,7 +90,7 @@ fn put_values(out: &mut Vec<u8>, items: &[Val]) -> Result<(), Memory>
     for item in items {
         put_key(out, item)?;
     }
-    put(out, &[0])
+    put(out, &[ARRAY_END])
 }
 
 #[cycle(put_key)]
@@ -99,5 +102,5 @@ fn put_fields(out: &mut Vec<u8>, fields: &Fields) -> Result<(), Memory>
         put_text(out, name.as_str().as_bytes())?;
         put_key(out, v)?;
     }
-    put(out, &[0])
+    put(out, &[OBJECT_END])
 }

@@ -8,6 +8,7 @@ ghost use Rattle.cv_values.specs.Ids.{digit, digit_value, hex_of, id_text};
 
 use crate::encode::put;
 use crate::key::Key;
+use crate::kinds::{STRING, STRING_END};
 use crate::meet::meet;
 use cv_values::{DocId, Memory};
 use std::cmp::Ordering;
@@ -39,12 +40,12 @@ pub(crate) const ID_KEY_LEN: usize = 51;
 pub(crate) fn put_id(out: &mut Vec<u8>, id: &DocId) -> Result<(), Memory>
     ensures { OnOk result (out.new.items ≡ out.old.items ++ text_key (id_text id.now)) }
 {
-    put(out, &[6])?;
+    put(out, &[STRING])?;
     put_hex(out, u128::from(id.table), 4)?;
     put_hex(out, id.session, 32)?;
     put_hex(out, u128::from(id.request), 8)?;
     put_hex(out, u128::from(id.ordinal), 4)?;
-    put(out, &[0, 1])?;
+    put(out, &[0, STRING_END])?;
     Ok(())
 }
 
@@ -69,7 +70,7 @@ fn meet_digits<'a>(id: &DocId, target: &'a [u8]) -> Result<&'a [u8], Ordering>
     let rest = meet_hex(id.session, 32, rest)?;
     let rest = meet_hex(u128::from(id.request), 8, rest)?;
     let rest = meet_hex(u128::from(id.ordinal), 4, rest)?;
-    meet(&[0, 1], rest)
+    meet(&[0, STRING_END], rest)
 }
 
 /// The key of an id's text, as `meet` compares it.
@@ -77,7 +78,7 @@ fn meet_digits<'a>(id: &DocId, target: &'a [u8]) -> Result<&'a [u8], Ordering>
 pub(crate) fn meet_id<'a>(id: &DocId, target: &'a [u8]) -> Result<&'a [u8], Ordering>
     ensures { MatchResult result (λ rest. met (text_key (id_text id.now)) target.now ≡ Ok rest.now) (λ o. met (text_key (id_text id.now)) target.now ≡ Err o) }
 {
-    let rest = meet(&[6], target)?;
+    let rest = meet(&[STRING], target)?;
     meet_digits(id, rest)
 }
 
@@ -116,7 +117,7 @@ fn id_from(bytes: &[u8]) -> Option<DocId>
     let (session, rest) = take_hex(rest, 32)?;
     let (request, rest) = take_hex(rest, 8)?;
     let (ordinal, rest) = take_hex(rest, 4)?;
-    if rest != [0, 1].as_slice() {
+    if rest != [0, STRING_END].as_slice() {
         return None;
     }
     Some(DocId {
@@ -131,7 +132,7 @@ fn id_in(bytes: &[u8]) -> Option<DocId>
     ensures { result ≡ id_in bytes.now }
 {
     match bytes.split_first() {
-        Some((6, rest)) => id_from(rest),
+        Some((&STRING, rest)) => id_from(rest),
         _ => None,
     }
 }

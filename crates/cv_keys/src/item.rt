@@ -9,6 +9,7 @@ ghost use Rattle.cv_keys.specs.KeyOrder.{ItemInRange, PlaceInRange};
 
 use crate::encode::{put, put_int, put_key};
 use crate::ids::{ID_KEY_LEN, meet_id, put_id};
+use crate::kinds::MISSING;
 use crate::length::key_len;
 use crate::meet::{meet, meet_int, meet_key};
 use crate::schema::Index;
@@ -56,7 +57,7 @@ fn put_item(out: &mut Vec<u8>, item: &Item) -> Result<(), Memory>
     ensures in_range { OnOk result (ItemInRange (shown item.now)) }
 {
     match item {
-        Item::Missing => put(out, &[2]),
+        Item::Missing => put(out, &[MISSING]),
         Item::Id(id) => put_id(out, id),
         Item::Creation(n) => put_int(out, *n),
         Item::Field(v) => put_key(out, v),
@@ -89,7 +90,7 @@ fn meet_item<'a>(item: &Item, target: &'a [u8]) -> Result<&'a [u8], Ordering>
     ensures { MatchResult result (λ rest. met (item_key (shown item.now)) target.now ≡ Ok rest.now) (λ o. met (item_key (shown item.now)) target.now ≡ Err o) }
 {
     match item {
-        Item::Missing => meet(&[2], target),
+        Item::Missing => meet(&[MISSING], target),
         Item::Id(id) => meet_id(id, target),
         Item::Creation(n) => meet_int(*n, target),
         Item::Field(v) => meet_key(v, target),

@@ -5,6 +5,7 @@ ghost use Rattle.std.specs.Cmp.Lexicographic.{pointwise, slice_cmp, nat_list_eq_
 ghost use Rattle.std.specs.Ordering.{nat_cmp};
 ghost use Rattle.std.specs.Prelude.{nat_eq};
 
+use crate::kinds::LAST;
 use cv_values::{Copied, Memory};
 use std::alloc::Global;
 use std::cmp::Ordering;
@@ -24,9 +25,6 @@ impl Model for Key {
 
     ghost view = { λ k. k.bytes.items };
 }
-
-/// Above each byte that a key of an item begins with.
-pub(crate) const LAST: u8 = 255;
 
 impl Key {
     /// The key of these bytes, which are not copied.

@@ -25,6 +25,7 @@ mod ids;
 mod interval;
 mod item;
 mod key;
+mod kinds;
 mod laws;
 mod length;
 mod make;

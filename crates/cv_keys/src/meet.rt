@@ -9,6 +9,9 @@ ghost use Rattle.cv_values.specs.Trees.{tree};
 ghost use Rattle.cv_values.specs.Value.{values_of, members_of};
 
 use crate::encode::int_bytes;
+use crate::kinds::{
+    ARRAY, ARRAY_END, BOOLEAN, BYTES, ESCAPE, INTEGER, NULL, OBJECT, OBJECT_END, STRING, STRING_END,
+};
 use cv_values::{Fields, Val};
 use std::cmp::Ordering;
 
@@ -41,19 +44,19 @@ fn meet_escaped<'a>(bytes: &[u8], target: &'a [u8]) -> Result<&'a [u8], Ordering
     let mut rest = target;
     for b in bytes {
         if *b == 0 {
-            rest = meet(&[0, 255], rest)?;
+            rest = meet(&[0, ESCAPE], rest)?;
         } else {
             rest = meet(&[*b], rest)?;
         }
     }
-    meet(&[0, 1], rest)
+    meet(&[0, STRING_END], rest)
 }
 
 /// The key of a string of these bytes.
 pub(crate) fn meet_text<'a>(text: &[u8], target: &'a [u8]) -> Result<&'a [u8], Ordering>
     ensures { MatchResult result (λ rest. met (text_key text.now) target.now ≡ Ok rest.now) (λ o. met (text_key text.now) target.now ≡ Err o) }
 {
-    let rest = meet(&[6], target)?;
+    let rest = meet(&[STRING], target)?;
     meet_escaped(text, rest)
 }
 
@@ -61,7 +64,7 @@ pub(crate) fn meet_text<'a>(text: &[u8], target: &'a [u8]) -> Result<&'a [u8], O
 pub(crate) fn meet_int(n: i64, target: &[u8]) -> Result<&[u8], Ordering>
     ensures { MatchResult result (λ rest. met (4 ∷ int_bytes n) target.now ≡ Ok rest.now) (λ o. met (4 ∷ int_bytes n) target.now ≡ Err o) }
 {
-    let rest = meet(&[4], target)?;
+    let rest = meet(&[INTEGER], target)?;
     meet(&int_bytes(n), rest)
 }
 
@@ -71,21 +74,21 @@ pub(crate) fn meet_key<'a>(v: &Val, target: &'a [u8]) -> Result<&'a [u8], Orderi
     ensures { MatchResult result (λ rest. met (key (tree v.now)) target.now ≡ Ok rest.now) (λ o. met (key (tree v.now)) target.now ≡ Err o) }
 {
     match v {
-        Val::Null => meet(&[3], target),
+        Val::Null => meet(&[NULL], target),
         Val::Int(n) => meet_int(*n, target),
-        Val::Bool(false) => meet(&[5, 0], target),
-        Val::Bool(true) => meet(&[5, 1], target),
+        Val::Bool(false) => meet(&[BOOLEAN, 0], target),
+        Val::Bool(true) => meet(&[BOOLEAN, 1], target),
         Val::Str(s) => meet_text(s.as_str().as_bytes(), target),
         Val::Bin(b) => {
-            let rest = meet(&[7], target)?;
+            let rest = meet(&[BYTES], target)?;
             meet_escaped(b.as_slice(), rest)
         }
         Val::Arr(items) => {
-            let rest = meet(&[8], target)?;
+            let rest = meet(&[ARRAY], target)?;
             meet_values(items.as_slice(), rest)
         }
         Val::Obj(fields) => {
-            let rest = meet(&[9], target)?;
+            let rest = meet(&[OBJECT], target)?;
             meet_fields(fields, rest)
         }
     }
@@ -100,7 +103,7 @@ fn meet_values<'a>(items: &[Val], target: &'a [u8]) -> Result<&'a [u8], Ordering
     for item in items {
         rest = meet_key(item, rest)?;
     }
-    meet(&[0], rest)
+    meet(&[ARRAY_END], rest)
 }
 
 #[tactic(auto, using(crate::proofs::Meeting::met_both))]
@@ -113,5 +116,5 @@ fn meet_fields<'a>(fields: &Fields, target: &'a [u8]) -> Result<&'a [u8], Orderi
         rest = meet_text(name.as_str().as_bytes(), rest)?;
         rest = meet_key(v, rest)?;
     }
-    meet(&[0], rest)
+    meet(&[OBJECT_END], rest)
 }

@@ -1,6 +1,6 @@
 use crate::{
-    Bound, Index, Interval, Key, Range, RangeFault, Schema, Table, Write, contains, id_of,
-    index_key, interval_of, key_of, touches,
+    Bound, Index, Interval, Range, RangeFault, Schema, Table, Write, contains, id_of, index_key,
+    interval_of, key_of, touches,
 };
 use cv_values::{Bytes, Doc, DocId, Fields, Memory, Seq, Text, Val, Vals, id_text};
 use std::alloc::Global;
@@ -22,87 +22,100 @@ fn object_of(alloc: Global, name: &str, v: Val) -> Result<Val, Memory> {
     Ok(Val::Obj(fields))
 }
 
+fn has_key(alloc: Global, v: Val, bytes: &[u8]) -> Result<bool, Memory> {
+    Ok(key_of(alloc, &v)?.as_slice() == bytes)
+}
+
 #[test]
 fn keys_have_the_bytes_of_the_table(rt: HostRuntime) -> Result<(), Fail> {
     let alloc = rt.alloc();
-    let minus_one = key_of(alloc, &Val::Int(-1))?;
-    assert!(rt; minus_one.as_slice() == [4, 0x7f, 255, 255, 255, 255, 255, 255, 255].as_slice());
-    let two = key_of(alloc, &Val::Int(2))?;
-    assert!(rt; two.as_slice() == [4, 0x80, 0, 0, 0, 0, 0, 0, 2].as_slice());
-    let least = key_of(alloc, &Val::Int(i64::MIN))?;
-    assert!(rt; least.as_slice() == [4, 0, 0, 0, 0, 0, 0, 0, 0].as_slice());
-    let a = key_of(alloc, &text(alloc, "a")?)?;
-    assert!(rt; a.as_slice() == [6, 0x61, 0, 1].as_slice());
-    let a_zero = key_of(alloc, &text(alloc, "a\0")?)?;
-    assert!(rt; a_zero.as_slice() == [6, 0x61, 0, 255, 0, 1].as_slice());
-    let bytes = key_of(alloc, &Val::Bin(Bytes::of(alloc, &[0, 255])?))?;
-    assert!(rt; bytes.as_slice() == [7, 0, 255, 255, 0, 1].as_slice());
-    let list = key_of(alloc, &array_of(alloc, Val::Null)?)?;
-    assert!(rt; list.as_slice() == [8, 3, 0].as_slice());
-    let object = key_of(alloc, &object_of(alloc, "a", Val::Bool(true))?)?;
-    assert!(rt; object.as_slice() == [9, 6, 0x61, 0, 1, 5, 1, 0].as_slice());
+    assert!(rt;
+        has_key(
+            alloc,
+            Val::Int(-1),
+            &[4, 0x7f, 255, 255, 255, 255, 255, 255, 255]
+        )?
+    );
+    assert!(rt; has_key(alloc, Val::Int(2), &[4, 0x80, 0, 0, 0, 0, 0, 0, 2])?);
+    assert!(rt; has_key(alloc, Val::Int(i64::MIN), &[4, 0, 0, 0, 0, 0, 0, 0, 0])?);
+    assert!(rt; has_key(alloc, text(alloc, "a")?, &[6, 0x61, 0, 1])?);
+    assert!(rt; has_key(alloc, text(alloc, "a\0")?, &[6, 0x61, 0, 255, 0, 1])?);
+    assert!(rt; has_key(alloc, array_of(alloc, Val::Null)?, &[8, 3, 0])?);
+    let object = object_of(alloc, "a", Val::Bool(true))?;
+    assert!(rt; has_key(alloc, object, &[9, 6, 0x61, 0, 1, 5, 1, 0])?);
     Ok(())
 }
 
-// Each is below the next.
-fn rising(alloc: Global) -> Result<Vec<Val>, Memory> {
-    let mut all = Vec::new(alloc);
-    all.push(Val::Null)?;
-    all.push(Val::Int(-1))?;
-    all.push(Val::Int(0))?;
-    all.push(Val::Bool(false))?;
-    all.push(Val::Bool(true))?;
-    all.push(text(alloc, "")?)?;
-    all.push(text(alloc, "a")?)?;
-    all.push(text(alloc, "a\0")?)?;
-    all.push(text(alloc, "ab")?)?;
-    all.push(Val::Bin(Bytes::of(alloc, &[])?))?;
-    all.push(Val::Bin(Bytes::of(alloc, &[0])?))?;
-    all.push(Val::Arr(Vals::new(alloc)))?;
-    all.push(array_of(alloc, Val::Null)?)?;
-    all.push(Val::Obj(Fields::new(alloc)))?;
-    all.push(object_of(alloc, "a", Val::Null)?)?;
-    Ok(all)
+// The key of v and the key right behind it are below the key of w.
+fn is_below(alloc: Global, v: Val, w: Val) -> Result<bool, Memory> {
+    let key = key_of(alloc, &v)?.copy(alloc)?;
+    let past = key.past(alloc)?;
+    let other = key_of(alloc, &w)?;
+    Ok(key < past && past < other && past.as_slice().last() == Some(&255))
+}
+
+fn bytes(alloc: Global, b: &[u8]) -> Result<Val, Memory> {
+    Ok(Val::Bin(Bytes::of(alloc, b)?))
 }
 
 #[test]
-fn keys_rise_with_the_values(rt: HostRuntime) -> Result<(), Fail> {
+fn keys_of_scalars_rise(rt: HostRuntime) -> Result<(), Fail> {
     let alloc = rt.alloc();
-    let mut before: Option<Key> = None;
-    for v in &rising(alloc)? {
-        let key = key_of(alloc, v)?;
-        if let Some(lower) = &before {
-            assert!(rt; lower < &key);
-        }
-        assert!(rt; key.copy(alloc)? == key);
-        let past = key.past(alloc)?;
-        assert!(rt; key < past);
-        assert_eq!(rt; past.as_slice().len(), key.as_slice().len() + 1);
-        assert!(rt; past.as_slice().last() == Some(&255));
-        before = Some(key);
-    }
+    assert!(rt; is_below(alloc, Val::Null, Val::Int(-1))?);
+    assert!(rt; is_below(alloc, Val::Int(-1), Val::Int(0))?);
+    assert!(rt; is_below(alloc, Val::Int(0), Val::Bool(false))?);
+    assert!(rt; is_below(alloc, Val::Bool(false), Val::Bool(true))?);
+    assert!(rt; is_below(alloc, Val::Bool(true), text(alloc, "")?)?);
     Ok(())
+}
+
+#[test]
+fn keys_of_texts_and_lists_rise(rt: HostRuntime) -> Result<(), Fail> {
+    let alloc = rt.alloc();
+    assert!(rt; is_below(alloc, text(alloc, "")?, text(alloc, "a")?)?);
+    assert!(rt; is_below(alloc, text(alloc, "a")?, text(alloc, "a\0")?)?);
+    assert!(rt; is_below(alloc, text(alloc, "a\0")?, text(alloc, "ab")?)?);
+    assert!(rt; is_below(alloc, text(alloc, "ab")?, bytes(alloc, &[])?)?);
+    assert!(rt; is_below(alloc, bytes(alloc, &[])?, bytes(alloc, &[0])?)?);
+    assert!(rt; is_below(alloc, bytes(alloc, &[0])?, Val::Arr(Vals::new(alloc)))?);
+    assert!(rt;
+        is_below(
+            alloc,
+            Val::Arr(Vals::new(alloc)),
+            array_of(alloc, Val::Null)?
+        )?
+    );
+    assert!(rt;
+        is_below(
+            alloc,
+            array_of(alloc, Val::Null)?,
+            Val::Obj(Fields::new(alloc))
+        )?
+    );
+    let object = object_of(alloc, "a", Val::Null)?;
+    assert!(rt; is_below(alloc, Val::Obj(Fields::new(alloc)), object)?);
+    Ok(())
+}
+
+fn index(alloc: Global, names: &[&str]) -> Result<Index, Memory> {
+    let mut fields = Seq::new(alloc);
+    for name in names {
+        fields.push(Text::of(alloc, name)?)?;
+    }
+    Ok(Index {
+        name: Text::of(alloc, "by")?,
+        fields,
+    })
 }
 
 // Table 0 with `by_id`, `by_creation_time` and the index of `n`.
 fn schema(alloc: Global) -> Result<Schema, Memory> {
     let mut indexes = Seq::new(alloc);
-    for names in [
-        ["_id", "", ""],
-        ["_creationTime", "_id", ""],
-        ["n", "_creationTime", "_id"],
-    ] {
-        let mut fields = Seq::new(alloc);
-        for name in names {
-            if !name.is_empty() {
-                fields.push(Text::of(alloc, name)?)?;
-            }
-        }
-        let name = Text::of(alloc, "by")?;
-        indexes.push(Index { name, fields })?;
-    }
-    let mut tables = Seq::new(alloc);
+    indexes.push(index(alloc, &["_id"])?)?;
+    indexes.push(index(alloc, &["_creationTime", "_id"])?)?;
+    indexes.push(index(alloc, &["n", "_creationTime", "_id"])?)?;
     let name = Text::of(alloc, "t")?;
+    let mut tables = Seq::new(alloc);
     tables.push(Table { name, indexes })?;
     Ok(Schema { tables })
 }
@@ -143,12 +156,11 @@ fn a_document_has_its_items_in_its_key(rt: HostRuntime) -> Result<(), Fail> {
     let index = schema.index_at(0, 2).expect(&rt, "an index");
     let key = index_key(alloc, &doc(alloc, None)?, index)?;
     // The field is missing; the creation is 5; then the id's text.
-    let bytes = key.as_slice();
-    assert!(rt; bytes.get(..10) == Some([2, 4, 0x80, 0, 0, 0, 0, 0, 0, 5].as_slice()));
+    let front = key.as_slice().get(..10);
+    assert!(rt; front == Some([2, 4, 0x80, 0, 0, 0, 0, 0, 0, 5].as_slice()));
     let id = key_of(alloc, &Val::Str(id_text(alloc, &ID)?))?;
-    assert!(rt; bytes.get(10..) == Some(id.as_slice()));
-    assert!(rt; schema.index_at(0, 3).is_none());
-    assert!(rt; schema.index_at(1, 0).is_none());
+    assert!(rt; key.as_slice().get(10..) == Some(id.as_slice()));
+    assert!(rt; schema.index_at(0, 3).is_none() && schema.index_at(1, 0).is_none());
     Ok(())
 }
 
@@ -165,98 +177,87 @@ fn ids_are_read_back_from_keys(rt: HostRuntime) -> Result<(), Fail> {
     Ok(())
 }
 
-fn refused(answer: Result<Interval, RangeFault>) -> Option<RangeFault> {
-    answer.err()
+fn fault_of(alloc: Global, range: &Range) -> Result<Option<RangeFault>, Memory> {
+    Ok(interval_of(alloc, &schema(alloc)?, range).err())
 }
 
 #[test]
 fn ranges_without_an_interval_are_refused(rt: HostRuntime) -> Result<(), Fail> {
     let alloc = rt.alloc();
-    let schema = schema(alloc)?;
-    let all = range(alloc, 9, Bound::None, Bound::None);
-    assert!(rt; refused(interval_of(alloc, &schema, &all)) == Some(RangeFault::NoIndex));
-    let mut other = range(alloc, 0, Bound::None, Bound::None);
-    other.table = 1;
-    assert!(rt; refused(interval_of(alloc, &schema, &other)) == Some(RangeFault::NoIndex));
-    let mut narrow = range(alloc, 0, Bound::None, Bound::Including(Val::Null)).copy(alloc)?;
-    assert!(rt; interval_of(alloc, &schema, &narrow).is_ok());
-    narrow.equal.push(Val::Null)?;
-    assert!(rt; refused(interval_of(alloc, &schema, &narrow)) == Some(RangeFault::NoField));
+    let mut r = range(alloc, 9, Bound::None, Bound::Including(Val::Null)).copy(alloc)?;
+    assert!(rt; fault_of(alloc, &r)? == Some(RangeFault::NoIndex));
+    r.index = 0;
+    assert!(rt; fault_of(alloc, &r)? == None);
+    r.equal.push(Val::Null)?;
+    assert!(rt; fault_of(alloc, &r)? == Some(RangeFault::NoField));
+    r.table = 1;
+    assert!(rt; fault_of(alloc, &r)? == Some(RangeFault::NoIndex));
     Ok(())
+}
+
+// Whether the interval between the bounds of the index of `n` holds a document with this `n`, by
+// `contains` and by `touches`.
+fn holds(alloc: Global, lower: Bound, upper: Bound, n: Option<i64>) -> Result<bool, Fail> {
+    let schema = schema(alloc)?;
+    let i = interval_of(alloc, &schema, &range(alloc, 2, lower, upper))?.copy(alloc)?;
+    let w = Write {
+        id: ID,
+        old: None,
+        new: Some(doc(alloc, n)?),
+    };
+    Ok(touches(&schema, &w.copy(alloc)?, &i) && is_in(alloc, &schema, &i, n)?)
+}
+
+fn is_in(alloc: Global, schema: &Schema, i: &Interval, n: Option<i64>) -> Result<bool, Fail> {
+    match schema.index_at(i.table, i.index) {
+        None => Ok(false),
+        Some(index) => {
+            let key = index_key(alloc, &doc(alloc, n)?, index)?;
+            Ok(contains(i, 0, 2, &key) && !contains(i, 0, 1, &key) && !contains(i, 1, 2, &key))
+        }
+    }
+}
+
+fn including(n: i64) -> Bound {
+    Bound::Including(Val::Int(n))
+}
+
+fn excluding(n: i64) -> Bound {
+    Bound::Excluding(Val::Int(n))
 }
 
 #[test]
 fn bounds_hold_the_documents_between_them(rt: HostRuntime) -> Result<(), Fail> {
     let alloc = rt.alloc();
-    let schema = schema(alloc)?;
-    let index = schema.index_at(0, 2).expect(&rt, "an index");
-    // With n of 1, 2 and 3, and with no n.
-    let one = index_key(alloc, &doc(alloc, Some(1))?, index)?;
-    let two = index_key(alloc, &doc(alloc, Some(2))?, index)?;
-    let three = index_key(alloc, &doc(alloc, Some(3))?, index)?;
-    let none = index_key(alloc, &doc(alloc, None)?, index)?;
-    for (lower, upper, want) in [
-        (Bound::None, Bound::None, [true, true, true, true]),
-        (
-            Bound::Including(Val::Int(2)),
-            Bound::None,
-            [false, true, true, false],
-        ),
-        (
-            Bound::Excluding(Val::Int(2)),
-            Bound::None,
-            [false, false, true, false],
-        ),
-        (
-            Bound::None,
-            Bound::Including(Val::Int(2)),
-            [true, true, false, true],
-        ),
-        (
-            Bound::None,
-            Bound::Excluding(Val::Int(2)),
-            [true, false, false, true],
-        ),
-        // The lower end isn't below the upper one.
-        (
-            Bound::Including(Val::Int(3)),
-            Bound::Including(Val::Int(1)),
-            [false, false, false, false],
-        ),
-    ] {
-        let i = interval_of(alloc, &schema, &range(alloc, 2, lower, upper))?.copy(alloc)?;
-        let found = [&one, &two, &three, &none].map(|key| contains(&i, 0, 2, key));
-        assert!(rt; found == want);
-        assert!(rt; !contains(&i, 0, 1, &two) && !contains(&i, 1, 2, &two));
-    }
+    assert!(rt; holds(alloc, Bound::None, Bound::None, None)?);
+    assert!(rt; holds(alloc, including(2), Bound::None, Some(2))?);
+    assert!(rt; !holds(alloc, including(2), Bound::None, None)?);
+    assert!(rt; !holds(alloc, excluding(2), Bound::None, Some(2))?);
+    assert!(rt; holds(alloc, excluding(2), Bound::None, Some(3))?);
+    assert!(rt; holds(alloc, Bound::None, including(2), Some(2))?);
+    assert!(rt; !holds(alloc, Bound::None, excluding(2), Some(2))?);
+    // The lower end isn't below the upper one: the interval is made, and holds nothing.
+    assert!(rt; !holds(alloc, including(3), including(1), Some(2))?);
     Ok(())
+}
+
+fn moves(alloc: Global, table: u16, old: i64, new: i64) -> Result<bool, Fail> {
+    let schema = schema(alloc)?;
+    let i = interval_of(alloc, &schema, &range(alloc, 2, Bound::None, excluding(3)))?;
+    let w = Write {
+        id: DocId { table, ..ID },
+        old: Some(doc(alloc, Some(old))?),
+        new: Some(doc(alloc, Some(new))?),
+    };
+    Ok(touches(&schema, &w, &i))
 }
 
 #[test]
 fn a_write_touches_where_it_was_and_where_it_is(rt: HostRuntime) -> Result<(), Fail> {
     let alloc = rt.alloc();
-    let schema = schema(alloc)?;
-    let below = range(alloc, 2, Bound::None, Bound::Excluding(Val::Int(3)));
-    let i = interval_of(alloc, &schema, &below)?;
-    for (old, new, want) in [
-        (Some(2), Some(8), true),
-        (Some(8), Some(2), true),
-        (Some(3), Some(8), false),
-    ] {
-        let w = Write {
-            id: ID,
-            old: Some(doc(alloc, old)?),
-            new: Some(doc(alloc, new)?),
-        };
-        assert!(rt; touches(&schema, &w.copy(alloc)?, &i) == want);
-    }
-    let mut made = Write {
-        id: ID,
-        old: None,
-        new: Some(doc(alloc, None)?),
-    };
-    assert!(rt; touches(&schema, &made, &i));
-    made.id.table = 1;
-    assert!(rt; !touches(&schema, &made, &i));
+    assert!(rt; moves(alloc, 0, 2, 8)?);
+    assert!(rt; moves(alloc, 0, 8, 2)?);
+    assert!(rt; !moves(alloc, 0, 3, 8)?);
+    assert!(rt; !moves(alloc, 1, 2, 2)?);
     Ok(())
 }
