@@ -1,8 +1,8 @@
 //! The digits of ids, without memory for their text.
-ghost use Rattle.std.specs.Prelude.{◌≡◌, ◌≢◌, ◌++◌, ◌^◌, ◌<◌, ◌≤◌, OnOk, MatchResult, Ok, Err, IfSome, IfNone, option_map};
+ghost use Rattle.std.specs.Prelude.{◌≡◌, ◌≢◌, ◌++◌, ◌^◌, ◌<◌, ◌≤◌, OnOk, IfSome, IfNone, option_map};
 ghost use Rattle.cv_keys.specs.KeyIds.{IsId, read_digits, id_from, id_in};
 ghost use Rattle.cv_values.specs.declared.ids.DocId.{DocId as Id};
-ghost use Rattle.cv_keys.specs.Meets.{met, id_end};
+ghost use Rattle.cv_keys.specs.Meets.{IsMet, id_end};
 ghost use Rattle.cv_keys.specs.KeyBytes.{text_key};
 ghost use Rattle.cv_values.specs.Ids.{digit, digit_value, hex_of, id_text};
 
@@ -52,7 +52,7 @@ pub(crate) fn put_id(out: &mut Vec<u8>, id: &DocId) -> Result<(), Memory>
 // The next so many hexadecimal digits of a number.
 fn meet_hex<'a>(number: u128, width: u32, target: &'a [u8]) -> Result<&'a [u8], Ordering>
     requires { width ≤ 32 }
-    ensures { MatchResult result (λ rest. met (hex_of width number) target.now ≡ Ok rest.now) (λ o. met (hex_of width number) target.now ≡ Err o) }
+    ensures { IsMet (hex_of width number) target.now result }
 {
     let mut rest = target;
     for i in 0..width {
@@ -64,7 +64,7 @@ fn meet_hex<'a>(number: u128, width: u32, target: &'a [u8]) -> Result<&'a [u8], 
 
 #[tactic(auto, using(crate::proofs::Meeting::met_both))]
 fn meet_digits<'a>(id: &DocId, target: &'a [u8]) -> Result<&'a [u8], Ordering>
-    ensures { MatchResult result (λ rest. met (id_end id.now) target.now ≡ Ok rest.now) (λ o. met (id_end id.now) target.now ≡ Err o) }
+    ensures { IsMet (id_end id.now) target.now result }
 {
     let rest = meet_hex(u128::from(id.table), 4, target)?;
     let rest = meet_hex(id.session, 32, rest)?;
@@ -76,7 +76,7 @@ fn meet_digits<'a>(id: &DocId, target: &'a [u8]) -> Result<&'a [u8], Ordering>
 /// The key of an id's text, as `meet` compares it.
 #[tactic(auto, using(crate::proofs::Hex::id_key))]
 pub(crate) fn meet_id<'a>(id: &DocId, target: &'a [u8]) -> Result<&'a [u8], Ordering>
-    ensures { MatchResult result (λ rest. met (text_key (id_text id.now)) target.now ≡ Ok rest.now) (λ o. met (text_key (id_text id.now)) target.now ≡ Err o) }
+    ensures { IsMet (text_key (id_text id.now)) target.now result }
 {
     let rest = meet(&[STRING], target)?;
     meet_digits(id, rest)

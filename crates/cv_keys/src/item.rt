@@ -1,7 +1,7 @@
 //! What a document has at the fields of an index.
-ghost use Rattle.std.specs.Prelude.{◌≡◌, ◌++◌, ◌+◌, ◌-◌, ◌^◌, OnOk, MatchResult, Ok, Err, min, length};
+ghost use Rattle.std.specs.Prelude.{◌≡◌, ◌++◌, ◌+◌, ◌-◌, ◌^◌, OnOk, min, length};
 ghost use Rattle.cv_values.specs.Order.{text_cmp};
-ghost use Rattle.cv_keys.specs.Meets.{met};
+ghost use Rattle.cv_keys.specs.Meets.{IsMet};
 ghost use Rattle.cv_keys.specs.Documents.{item_at, place};
 ghost use Rattle.cv_keys.specs.Items.{shown};
 ghost use Rattle.cv_keys.specs.KeyBytes.{item_key, place_key};
@@ -87,7 +87,7 @@ pub(crate) fn put_place(out: &mut Vec<u8>, doc: &Doc, index: &Index) -> Result<(
 }
 
 fn meet_item<'a>(item: &Item, target: &'a [u8]) -> Result<&'a [u8], Ordering>
-    ensures { MatchResult result (λ rest. met (item_key (shown item.now)) target.now ≡ Ok rest.now) (λ o. met (item_key (shown item.now)) target.now ≡ Err o) }
+    ensures { IsMet (item_key (shown item.now)) target.now result }
 {
     match item {
         Item::Missing => meet(&[MISSING], target),
@@ -111,7 +111,7 @@ pub(crate) fn place_order(doc: &Doc, index: &Index, target: &[u8]) -> Ordering
 
 #[tactic(auto, using(crate::proofs::Meeting::met_both, std::proofs::lemmas::Grind::common_steps))]
 fn meet_place<'a>(doc: &Doc, index: &Index, target: &'a [u8]) -> Result<&'a [u8], Ordering>
-    ensures { MatchResult result (λ rest. met (place_key (place doc.now index.now)) target.now ≡ Ok rest.now) (λ o. met (place_key (place doc.now index.now)) target.now ≡ Err o) }
+    ensures { IsMet (place_key (place doc.now index.now)) target.now result }
 {
     let mut rest = target;
     for field in index.fields.as_slice() {

@@ -2,9 +2,9 @@
 //!
 //! Each call answers what is left of a target that begins with the key's bytes, or how the key
 //! compares with the target where they part.
-ghost use Rattle.std.specs.Prelude.{◌≡◌, [], ◌∷◌, MatchResult, Ok, Err, map};
+ghost use Rattle.std.specs.Prelude.{◌≡◌, [], ◌∷◌, map};
 ghost use Rattle.cv_keys.specs.KeyBytes.{key, values_key, members_key, text_key, escaped, int_bytes};
-ghost use Rattle.cv_keys.specs.Meets.{met};
+ghost use Rattle.cv_keys.specs.Meets.{IsMet};
 ghost use Rattle.cv_values.specs.Trees.{tree};
 ghost use Rattle.cv_values.specs.Value.{values_of, members_of};
 
@@ -16,7 +16,7 @@ use cv_values::{Fields, Val};
 use std::cmp::Ordering;
 
 fn meet_byte(byte: u8, target: &[u8]) -> Result<&[u8], Ordering>
-    ensures { MatchResult result (λ rest. met (byte ∷ []) target.now ≡ Ok rest.now) (λ o. met (byte ∷ []) target.now ≡ Err o) }
+    ensures { IsMet (byte ∷ []) target.now result }
 {
     match target.split_first() {
         None => Err(Ordering::Greater),
@@ -29,7 +29,7 @@ fn meet_byte(byte: u8, target: &[u8]) -> Result<&[u8], Ordering>
 }
 
 pub(crate) fn meet<'a>(bytes: &[u8], target: &'a [u8]) -> Result<&'a [u8], Ordering>
-    ensures { MatchResult result (λ rest. met bytes.now target.now ≡ Ok rest.now) (λ o. met bytes.now target.now ≡ Err o) }
+    ensures { IsMet bytes.now target.now result }
 {
     let mut rest = target;
     for b in bytes {
@@ -39,7 +39,7 @@ pub(crate) fn meet<'a>(bytes: &[u8], target: &'a [u8]) -> Result<&'a [u8], Order
 }
 
 fn meet_escaped<'a>(bytes: &[u8], target: &'a [u8]) -> Result<&'a [u8], Ordering>
-    ensures { MatchResult result (λ rest. met (escaped bytes.now) target.now ≡ Ok rest.now) (λ o. met (escaped bytes.now) target.now ≡ Err o) }
+    ensures { IsMet (escaped bytes.now) target.now result }
 {
     let mut rest = target;
     for b in bytes {
@@ -54,7 +54,7 @@ fn meet_escaped<'a>(bytes: &[u8], target: &'a [u8]) -> Result<&'a [u8], Ordering
 
 /// The key of a string of these bytes.
 pub(crate) fn meet_text<'a>(text: &[u8], target: &'a [u8]) -> Result<&'a [u8], Ordering>
-    ensures { MatchResult result (λ rest. met (text_key text.now) target.now ≡ Ok rest.now) (λ o. met (text_key text.now) target.now ≡ Err o) }
+    ensures { IsMet (text_key text.now) target.now result }
 {
     let rest = meet(&[STRING], target)?;
     meet_escaped(text, rest)
@@ -62,7 +62,7 @@ pub(crate) fn meet_text<'a>(text: &[u8], target: &'a [u8]) -> Result<&'a [u8], O
 
 /// The key of an integer.
 pub(crate) fn meet_int(n: i64, target: &[u8]) -> Result<&[u8], Ordering>
-    ensures { MatchResult result (λ rest. met (4 ∷ int_bytes n) target.now ≡ Ok rest.now) (λ o. met (4 ∷ int_bytes n) target.now ≡ Err o) }
+    ensures { IsMet (4 ∷ int_bytes n) target.now result }
 {
     let rest = meet(&[INTEGER], target)?;
     meet(&int_bytes(n), rest)
@@ -71,7 +71,7 @@ pub(crate) fn meet_int(n: i64, target: &[u8]) -> Result<&[u8], Ordering>
 /// A value's key.
 #[cycle(meet_key)]
 pub(crate) fn meet_key<'a>(v: &Val, target: &'a [u8]) -> Result<&'a [u8], Ordering>
-    ensures { MatchResult result (λ rest. met (key (tree v.now)) target.now ≡ Ok rest.now) (λ o. met (key (tree v.now)) target.now ≡ Err o) }
+    ensures { IsMet (key (tree v.now)) target.now result }
 {
     match v {
         Val::Null => meet(&[NULL], target),
@@ -97,7 +97,7 @@ pub(crate) fn meet_key<'a>(v: &Val, target: &'a [u8]) -> Result<&'a [u8], Orderi
 #[tactic(auto, using(crate::proofs::Meeting::met_both, std::proofs::lemmas::Grind::common_steps))]
 #[cycle(meet_key)]
 fn meet_values<'a>(items: &[Val], target: &'a [u8]) -> Result<&'a [u8], Ordering>
-    ensures { MatchResult result (λ rest. met (values_key (values_of (map tree items.now))) target.now ≡ Ok rest.now) (λ o. met (values_key (values_of (map tree items.now))) target.now ≡ Err o) }
+    ensures { IsMet (values_key (values_of (map tree items.now))) target.now result }
 {
     let mut rest = target;
     for item in items {
@@ -109,7 +109,7 @@ fn meet_values<'a>(items: &[Val], target: &'a [u8]) -> Result<&'a [u8], Ordering
 #[tactic(auto, using(crate::proofs::Meeting::met_both))]
 #[cycle(meet_key)]
 fn meet_fields<'a>(fields: &Fields, target: &'a [u8]) -> Result<&'a [u8], Ordering>
-    ensures { MatchResult result (λ rest. met (members_key (members_of fields.now)) target.now ≡ Ok rest.now) (λ o. met (members_key (members_of fields.now)) target.now ≡ Err o) }
+    ensures { IsMet (members_key (members_of fields.now)) target.now result }
 {
     let mut rest = target;
     for (name, v) in fields.as_map() {
