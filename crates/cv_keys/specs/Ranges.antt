@@ -1,7 +1,8 @@
 -- The interval of a range.
-use Rattle.std.specs.Prelude.{ℕ, ◌+◌, Bool, true, false, nat_lt, if◌then◌else◌, [], ◌∷◌, ◌++◌, map, length, Option, Some, None, Result, Ok, Err}
+use Rattle.std.specs.Prelude.{ℕ, ◌+◌, Bool, true, false, nat_lt, if◌then◌else◌, List, [], ◌∷◌, ◌++◌, map, length, Option, Some, None, Result, Ok, Err}
+use Rattle.std.specs.Borrow.{Bor}
 use Rattle.cv_values.specs.Trees.{tree}
-use Rattle.cv_values.specs.Value.{Value}
+use Rattle.cv_values.specs.declared.val.Val.{Val}
 use Rattle.cv_keys.specs.Documents.{index_at}
 use Rattle.cv_keys.specs.Intervals.{in_bytes}
 use Rattle.cv_keys.specs.Places.{Place, End, below, above, PlaceInterval}
@@ -14,15 +15,18 @@ use Rattle.cv_keys.specs.declared.range.RangeFault.TheVariants.{NoIndex, NoField
 use Rattle.cv_keys.specs.declared.schema.Index.{Index}
 use Rattle.cv_keys.specs.declared.schema.Schema.{Schema}
 
--- the places that begin with p, and go on with v if it is there
-abbrev pub prefix : Place → Option Value → Place
-prefix p None = p
-prefix p (Some v) = p ++ Some v ∷ []
+abbrev pub items_of : List Val → Place
+items_of vs = map Some (map tree vs)
 
--- the end right behind them or right before them
-abbrev pub end_at : Place → Option Value → Bool → End
-end_at p v true = above (prefix p v)
-end_at p v false = below (prefix p v)
+-- the items of the values, and of the bound if it is there
+abbrev pub given : List Val → Option (Bor Val) → Place
+given vs None = items_of vs
+given vs (Some v) = items_of vs ++ Some (tree v.now) ∷ []
+
+-- the end right behind the places that begin with p, or right before them
+abbrev pub end_at : Place → Bool → End
+end_at p true = above p
+end_at p false = below p
 
 -- the end under the places that begin with p and go on with at least, or more than, the bound
 abbrev pub lower_end : Place → Bound → End
@@ -36,7 +40,7 @@ upper_end p Unbounded = above p
 upper_end p (Including v) = above (p ++ Some (tree v) ∷ [])
 upper_end p (Excluding v) = below (p ++ Some (tree v) ∷ [])
 
--- the places that begin with the values and go on between the bounds
+-- the places that begin with the equalities and go on between the bounds
 abbrev pub range_interval : Range → PlaceInterval
 range_interval r = record { table = r.table; index = r.index; lo = lower_end (map Some r.equal) r.lower; hi = upper_end (map Some r.equal) r.upper }
 

@@ -21,6 +21,7 @@
 #![tactic(auto)]
 
 mod encode;
+mod ends;
 mod ids;
 mod interval;
 mod item;
@@ -36,11 +37,12 @@ mod schema;
 mod tests;
 mod write;
 
+pub use ends::interval_of;
 pub use ids::id_of;
 pub use interval::{Interval, contains};
 pub use key::Key;
 pub use laws::keys_keep_order;
-pub use make::{index_key, interval_of, key_of};
+pub use make::{index_key, key_of};
 pub use range::{Bound, Range, RangeFault};
 pub use schema::{Index, Schema, Table};
 pub use write::{Write, touches};

@@ -2,7 +2,7 @@ use Rattle.std.proofs.Common.{map, Some, arith, length-append}
 use Rattle.cv_keys.specs.KeyBytes.{key, place_key}
 use Rattle.cv_keys.proofs.Prefixes.{place_key_last}
 use Rattle.cv_values.specs.Trees.{tree}
-use Rattle.cv_keys.proofs.make.prefix_len.Goals as goal
+use Rattle.cv_keys.proofs.ends.prefix_len.Goals as goal
 
 pub returns-in-Some : goal.returns-in-Some
 returns-in-Some c =

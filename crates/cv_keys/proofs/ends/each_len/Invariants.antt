@@ -1,7 +1,7 @@
 use Rattle.std.proofs.Common.{◌≡◌, ◌+◌, ◌-◌, ◌^◌, ◌≤◌, min, length, drop, map, Some}
 use Rattle.cv_keys.specs.KeyBytes.{place_key}
 use Rattle.cv_values.specs.Trees.{tree}
-use Rattle.cv_keys.proofs.make.each_len.Given as goal
+use Rattle.cv_keys.proofs.ends.each_len.Given as goal
 
 abbrev pub invariant-loop-v : goal.invariant-loop-v
 invariant-loop-v l =

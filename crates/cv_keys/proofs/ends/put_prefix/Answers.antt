@@ -2,7 +2,7 @@ use Rattle.std.proofs.Common.{◌++◌, ◌∙◌, ap, sym, append_assoc, map, S
 use Rattle.cv_keys.specs.KeyBytes.{key, place_key}
 use Rattle.cv_keys.proofs.Prefixes.{place_key_last}
 use Rattle.cv_values.specs.Trees.{tree}
-use Rattle.cv_keys.proofs.make.put_prefix.Goals as goal
+use Rattle.cv_keys.proofs.ends.put_prefix.Goals as goal
 
 pub returns-in-Some-clause-bytes : goal.returns-in-Some-clause-bytes
 returns-in-Some-clause-bytes c =

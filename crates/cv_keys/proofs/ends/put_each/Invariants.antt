@@ -2,7 +2,7 @@ use Rattle.std.proofs.Common.{◌≡◌, ◌++◌, drop, map, Some}
 use Rattle.cv_keys.specs.KeyBytes.{place_key}
 use Rattle.cv_keys.specs.KeyOrder.{PlaceInRange}
 use Rattle.cv_values.specs.Trees.{tree}
-use Rattle.cv_keys.proofs.make.put_each.Given as goal
+use Rattle.cv_keys.proofs.ends.put_each.Given as goal
 
 abbrev pub invariant-loop-v : goal.invariant-loop-v
 invariant-loop-v l =
