@@ -9,7 +9,7 @@ use Rattle.fn_tree.specs.History.{History, docs_after}
 use Rattle.fn_tree.specs.Run.{run, run_body, takes, fits, fails, inserted, first_id, new_doc}
 use Rattle.fn_tree.specs.declared.entry.Call.{Call}
 use Rattle.fn_tree.specs.declared.entry.Entry.{Entry}
-use Rattle.fn_tree.specs.declared.write.Write.{Write}
+use Rattle.cv_keys.specs.declared.write.Write.{Write}
 use Rattle.fn_tree.proofs.Legal.{docs_after-end}
 use Rattle.fn_tree.proofs.OriginOfIds.{fresh_id, without_absent, run_writes}
 use Rattle.convexd.specs.Contents.{Holds, entry_from, entry_of, is_known}

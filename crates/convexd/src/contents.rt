@@ -7,8 +7,9 @@ ghost use Rattle.fn_tree.specs.Run.{argument_of, counted, first_id, inserted, ne
 ghost use Rattle.convexd.specs.ModuleViews.{body_view, program_view};
 
 use crate::first_form::{FunctionBody, Module, find_function};
+use cv_keys::Write;
 use cv_values::{Doc, DocId, Fields, Memory, Seq, Text, Val};
-use fn_tree::{Call, Entry, Reply, Write};
+use fn_tree::{Call, Entry, Reply};
 use std::alloc::Global;
 
 /// The most calls that a script may have.

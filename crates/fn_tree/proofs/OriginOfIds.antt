@@ -15,7 +15,7 @@ use Rattle.fn_tree.specs.HistoryLaws.{HasPair, IdsHavePairs}
 use Rattle.fn_tree.specs.declared.entry.Call.{Call}
 use Rattle.fn_tree.specs.declared.entry.Entry.{Entry}
 use Rattle.fn_tree.specs.declared.entry.Reply.TheVariants.{Value as Gives}
-use Rattle.fn_tree.specs.declared.write.Write.{Write}
+use Rattle.cv_keys.specs.declared.write.Write.{Write}
 
 -- ---- documents whose ids have something in common
 

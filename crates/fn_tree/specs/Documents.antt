@@ -2,7 +2,7 @@
 use Rattle.std.specs.Prelude.{ℕ, Bool, not, ◌&&◌, ◌==◌, cond, List, [], ◌∷◌, filter, Option, Some, None}
 use Rattle.cv_values.specs.declared.ids.DocId.{DocId}
 use Rattle.cv_values.specs.declared.doc.Doc.{Doc}
-use Rattle.fn_tree.specs.declared.write.Write.{Write}
+use Rattle.cv_keys.specs.declared.write.Write.{Write}
 
 -- documents, at most one of an id
 abbrev pub Docs : Type 0

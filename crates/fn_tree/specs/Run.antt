@@ -13,7 +13,7 @@ use Rattle.fn_tree.specs.FirstForm.{Body, inserts, counts, Program, function_of}
 use Rattle.fn_tree.specs.declared.entry.Call.{Call}
 use Rattle.fn_tree.specs.declared.entry.Reply.{Reply}
 use Rattle.fn_tree.specs.declared.entry.Reply.TheVariants.{Value as Gives, Failed}
-use Rattle.fn_tree.specs.declared.write.Write.{Write}
+use Rattle.cv_keys.specs.declared.write.Write.{Write}
 
 pub record Outcome : Type 0 where
   pub reply : Reply

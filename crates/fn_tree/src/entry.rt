@@ -1,6 +1,6 @@
 ghost use Rattle.std.specs.Prelude.{◌≡◌, IfOk};
 
-use crate::write::Write;
+use cv_keys::Write;
 use cv_values::{Copied, Fields, Memory, Seq, Text, Val};
 use std::alloc::Global;
 

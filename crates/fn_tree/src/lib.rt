@@ -12,8 +12,6 @@ mod entry;
 mod laws;
 #[cfg(test)]
 mod tests;
-mod write;
 
 pub use entry::{Call, Entry, Reply};
 pub use laws::{legal_histories, worked_histories};
-pub use write::Write;

@@ -1,4 +1,5 @@
-use crate::{Call, Entry, Reply, Write};
+use crate::{Call, Entry, Reply};
+use cv_keys::Write;
 use cv_values::{Doc, DocId, Fields, Memory, Seq, Text, Val};
 use std::alloc::Global;
 use std::test::Fail;

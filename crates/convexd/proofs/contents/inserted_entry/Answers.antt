@@ -2,7 +2,7 @@ use Rattle.std.proofs.Common.{List, ap}
 use Rattle.cv_values.specs.Equality.{untree-tree}
 use Rattle.fn_tree.specs.declared.entry.Entry.{Entry}
 use Rattle.fn_tree.specs.declared.entry.Reply.TheVariants.{Value as Gives}
-use Rattle.fn_tree.specs.declared.write.Write.{Write}
+use Rattle.cv_keys.specs.declared.write.Write.{Write}
 use Rattle.convexd.proofs.contents.inserted_entry.Goals as goal
 
 pub returns : goal.returns
