@@ -9,7 +9,7 @@ use Rattle.std.proofs.lemmas.Str.{utf8_valid_len-IsUtf8}
 use Rattle.std.proofs.lemmas.Str.Parse.{IsNumeralModel, numerals_by_value, parse_digits}
 use Rattle.std.proofs.lemmas.Bool.Decides.{Decides-ltb, leb_tells}
 use Rattle.std.proofs.Common.{rules}
-use Rattle.convexd.specs.CallLine.{Words, words_of, call_of, call_from, request_of}
+use Rattle.convexd.specs.ScriptLine.{Words, words_of, call_of, call_from, request_of}
 
 pub call_of_words : (line : List ℕ) (w : Words) → IsUtf8 line → Some w ≡ words_of line → call_of line ≡ call_from w
 call_of_words line w utf8 e = rw (eq-eqb _ _ (utf8_valid_len-IsUtf8 line utf8), ← e)

@@ -1,6 +1,9 @@
 pub mod Ascii
 pub mod CallLemmas
 pub mod CutLemmas
+pub mod EntryLines
+pub mod EntryTexts
+pub mod Found
 pub mod GuessLemmas
 pub mod GuessWhole
 pub mod Held

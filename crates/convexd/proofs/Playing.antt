@@ -6,7 +6,9 @@ use Rattle.cv_outside.specs.Causes.{AppendsPart}
 use Rattle.convexd.specs.Lines.{text_of}
 use Rattle.fn_tree.specs.FirstForm.{Program}
 use Rattle.fn_tree.specs.History.{History}
-use Rattle.convexd.specs.Play.{Played, play, after_text, added, reply_lines, line_output, ts_line}
+use Rattle.convexd.specs.ScriptLine.{event_of}
+use Rattle.convexd.specs.declared.script_line.ScriptLine.{ScriptLine}
+use Rattle.convexd.specs.Play.{Played, play, after_text, after_event, event_text, line_output, ts_line}
 use Rattle.convexd.proofs.Writes.{Appends-none, Appends-append, part_more}
 
 -- what was written so far, and what the rest of the lines will add to it
@@ -16,14 +18,14 @@ pub record Playing (p : Program) (first : ℕ) (lines : List (List ℕ)) (h0 h1 
   pub played : play p [] first lines ≡ after_text written (play p h n rest)
 
 module _ (p : Program) (first : ℕ) (lines : List (List ℕ)) (h0 h1 h2 : Option (List ℕ)) (h : History) (n : ℕ) where
-  pub playing_more : (line : List ℕ) (rest : List (List ℕ)) (es : History) → Playing p first lines h0 h1 h n (line ∷ rest) → added p h (text_of line) ≡ Some es → Appends h1 h2 (reply_lines (length h) es) → Playing p first lines h0 h2 (h ++ es) (n + 1) rest
-  playing_more line rest es w found appended = record {
-    written = w.written ++ reply_lines (length h) es;
-    appended = Appends-append h0 h1 h2 w.written (reply_lines (length h) es) w.appended appended;
+  pub playing_more : (line : List ℕ) (rest : List (List ℕ)) (event : ScriptLine) → Playing p first lines h0 h1 h n (line ∷ rest) → event_of (text_of line) ≡ Some event → Appends h1 h2 (event_text p h event) → Playing p first lines h0 h2 (after_event p h event) (n + 1) rest
+  playing_more line rest event w found appended = record {
+    written = w.written ++ event_text p h event;
+    appended = Appends-append h0 h1 h2 w.written (event_text p h event) w.appended appended;
     played = w.played ∙ rw (found, append_assoc);
   }
 
-  pub playing_bad : (line : List ℕ) (rest : List (List ℕ)) → Playing p first lines h0 h1 h n (line ∷ rest) → added p h (text_of line) ≡ None → Appends h1 h2 [] → ((play p [] first lines).bad ≡ Some n) × Appends h0 h2 (play p [] first lines).text
+  pub playing_bad : (line : List ℕ) (rest : List (List ℕ)) → Playing p first lines h0 h1 h n (line ∷ rest) → event_of (text_of line) ≡ None → Appends h1 h2 [] → ((play p [] first lines).bad ≡ Some n) × Appends h0 h2 (play p [] first lines).text
   playing_bad line rest w found appended =
       (rw (w.played, found), rw (w.played, found) (Appends-append h0 h1 h2 w.written [] w.appended appended))
 
@@ -35,9 +37,9 @@ module _ (p : Program) (first : ℕ) (lines : List (List ℕ)) (h0 h1 h2 : Optio
       rw w.played (rw append-nil at (part_more h0 h1 h2 w.written (ts_line (length h)) [] w.appended part))
 
   step_more : (line : List ℕ) (rest : List (List ℕ)) → (more : List ℕ) × ((play p h n (line ∷ rest)).text ≡ line_output p h (text_of line) ++ more)
-  step_more line rest = elim (added p h (text_of line)) as (λ o. (more : List ℕ) × ((option_map_or (λ es. after_text (reply_lines (length h) es) (play p (h ++ es) (n + 1) rest)) o (record { history = h; text = []; bad = Some n })).text ≡ option_map_or (reply_lines (length h)) o [] ++ more)) [
+  step_more line rest = elim (event_of (text_of line)) as (λ o. (more : List ℕ) × ((option_map_or (λ event. after_text (event_text p h event) (play p (after_event p h event) (n + 1) rest)) o (record { history = h; text = []; bad = Some n })).text ≡ option_map_or (event_text p h) o [] ++ more)) [
     | None ↦ ([], refl)
-    | Some es ↦ ((play p (h ++ es) (n + 1) rest).text, refl)
+    | Some event ↦ ((play p (after_event p h event) (n + 1) rest).text, refl)
   ]
 
   pub playing_part : (line : List ℕ) (rest : List (List ℕ)) → Playing p first lines h0 h1 h n (line ∷ rest) → AppendsPart h1 h2 (line_output p h (text_of line)) → AppendsPart h0 h2 (play p [] first lines).text

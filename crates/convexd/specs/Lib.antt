@@ -1,9 +1,10 @@
-pub mod CallLine
 pub mod Contents
+pub mod EntryJson
 pub mod Guess
 pub mod Lines
 pub mod ModuleText
 pub mod ModuleViews
 pub mod Play
 pub mod Replay
+pub mod ScriptLine
 pub mod WordViews

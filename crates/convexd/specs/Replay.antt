@@ -22,7 +22,7 @@ pub record IsPlay (input : List ℕ) (played : Played) : Type 0 where
   pub parts : halves (lines_of input) ≡ Some (front, script)
   pub text : IsTextOf program (concat front)
   pub plays : played ≡ play program [] (length front + 2) script
-  pub log : IsOneLog program played
+  pub log : IsOneLog program script played
   pub limit : length input ≤ INPUT_LIMIT
 
 -- the input has a line `%%`, and no program has the text before it
@@ -65,3 +65,25 @@ pub record IsGood (input : List ℕ) : Type 0 where
   pub text : IsTextOf program (concat front)
   pub good : (play program [] (length front + 2) script).bad ≡ None
   pub limit : length input ≤ INPUT_LIMIT
+
+-- an answer that says what the input is
+abbrev pub TellsOfInput : Exit → Type 0
+TellsOfInput Done = Unit {0}
+TellsOfInput (Module fault) = Unit {0}
+TellsOfInput (Script line) = Unit {0}
+TellsOfInput TooLarge = Unit {0}
+TellsOfInput Usage = ⊥
+TellsOfInput Read = ⊥
+TellsOfInput Write = ⊥
+TellsOfInput Memory = ⊥
+
+-- the status that tells an answer
+abbrev pub status_of : Exit → ℕ
+status_of Done = 0
+status_of Usage = 1
+status_of (Module fault) = 2
+status_of (Script line) = 3
+status_of Read = 4
+status_of Write = 5
+status_of Memory = 6
+status_of TooLarge = 7

@@ -1,9 +1,11 @@
 //! What the log holds, and the runs of calls on it.
-ghost use Rattle.std.specs.Prelude.{◌≡◌, ◌+◌, ◌<◌, ◌^◌, ◌∷◌, ◌++◌, [], None, Some, length, IfOk, OnOk, OnErr, if◌then◌else◌};
+ghost use Rattle.std.specs.Prelude.{◌≡◌, ◌+◌, ◌-◌, ◌<◌, ◌≤◌, ◌^◌, ◌∷◌, ◌++◌, [], None, Some, length, slice_get, IfOk, OnOk, ℕ};
+ghost use Rattle.std.specs.BTreeMap.{get, Updates};
 ghost use Rattle.std.specs.Option.{option_map};
 ghost use Rattle.cv_values.specs.Trees.{tree};
 ghost use Rattle.fn_tree.specs.Documents.{Docs, doc_of, table_docs};
-ghost use Rattle.fn_tree.specs.Run.{argument_of, counted, first_id, inserted, new_doc, run_body, takes};
+ghost use Rattle.fn_tree.specs.Run.{argument_of, counted, fails, first_id, inserted, new_doc, run, run_body};
+ghost use Rattle.fn_tree.specs.declared.entry.Entry.{Entry as EntryOf};
 ghost use Rattle.convexd.specs.ModuleViews.{body_view, program_view};
 
 use crate::first_form::{FunctionBody, Module, find_function};
@@ -11,52 +13,64 @@ use cv_keys::Write;
 use cv_values::{Doc, DocId, Fields, Memory, Seq, Text, Val};
 use fn_tree::{Call, Entry, Reply};
 use std::alloc::Global;
-
-/// The most calls that a script may have.
-const MAX_CALLS: usize = 8192;
+use std::collections::BTreeMap;
 
 /// The most documents that can be counted.
 const MAX_COUNT: u64 = 8192;
 
-/// The entries of the log, and the number of documents that they leave. Each document is of the one
-/// table that a program has, so a count needs no list of them.
+/// The entries of the log; the timestamp of each session's request that it has; and the number of
+/// documents that the entries leave. Each document is of the one table that a program has, so a count
+/// needs no list of them.
 #[derive(Drop)]
 pub struct Contents {
     pub entries: Seq<Entry>,
+    pub timestamps: BTreeMap<(u128, u32), u64>,
     pub documents: u64,
 }
 
 impl Contents {
+    ghost use Rattle.convexd.specs.Contents.{pair_cmp, pair_in};
+
     /// An empty log. It takes no memory.
     pub fn new(alloc: Global) -> Contents
-        ensures { result ≡ record { entries = []; documents = 0 } }
+        ensures entries { result.entries ≡ [] }
+        ensures timestamps { result.timestamps.entries ≡ [] }
+        ensures documents { result.documents ≡ 0 }
     {
         Contents {
             entries: Seq::new(alloc),
+            timestamps: BTreeMap::new(alloc),
             documents: 0,
         }
     }
 
-    /// Adds an entry at the end. Each write of it is a new document.
-    pub fn push(&mut self, entry: Entry) -> Result<(), Memory>
-        requires { self.old.documents + length entry.writes < 2 ^ 64 }
-        ensures ok { OnOk result (self.new ≡ record { entries = self.old.entries ++ entry ∷ []; documents = self.old.documents + length entry.writes }) }
-        ensures err { OnErr result (self.new ≡ self.old) }
+    /// The timestamp of a call's session and request. It searches the timestamps.
+    fn find(&self, call: &Call) -> Option<u64>
+        ensures { result ≡ get pair_cmp self.now.timestamps (pair_in call.entry.now) }
+    {
+        self.timestamps.get(&(call.session, call.request)).copied()
+    }
+
+    /// Adds an entry at the end. Each write of it is a new document. After an error the contents may
+    /// only be dropped.
+    fn push(&mut self, entry: Entry) -> Result<(), Memory>
+        requires documents { self.old.documents + length entry.writes < 2 ^ 64 }
+        requires entries { length self.old.entries < 2 ^ 32 }
+        ensures entries { OnOk result (self.new.entries ≡ self.old.entries ++ entry ∷ []) }
+        ensures timestamps { OnOk result (Updates pair_cmp self.old.timestamps self.new.timestamps (pair_in entry.call) (Some (length self.old.entries + 1))) }
+        ensures documents { OnOk result (self.new.documents ≡ self.old.documents + length entry.writes) }
     {
         let more = entry.writes.as_slice().len() as u64;
+        let ts = self.entries.as_slice().len() as u64 + 1;
+        let pair = (entry.call.session, entry.call.request);
+        self.timestamps.insert(pair, ts)?;
         self.entries.push(entry)?;
         self.documents += more;
         Ok(())
     }
 }
 
-ghost use Rattle.convexd.specs.Contents.{Holds, entry_from, entry_of, is_known};
-
-fn knows(entries: &[Entry], call: &Call) -> bool
-    ensures { result ≡ is_known entries.now call.entry.now }
-{
-    entries.iter().any(|e| e.call.session == call.session && e.call.request == call.request)
-}
+ghost use Rattle.convexd.specs.Contents.{Holds, after_call, entry_from, found, pair_in};
 
 fn argument_of<'a>(args: &'a Fields, param: &Text) -> Option<&'a Val>
     ensures { option_map (λ v. tree v.now) result ≡ argument_of param.now args.now }
@@ -103,65 +117,87 @@ fn inserted_entry(alloc: Global, call: Call, field: &Text, value: Val) -> Result
     })
 }
 
-fn counted_reply(alloc: Global, documents: u64) -> Result<Reply, Memory>
-    ensures { IfOk result (λ r. r ≡ (counted documents).reply) }
+// The entry of a call that ends in an error.
+fn failed_entry(alloc: Global, call: Call, why: &str) -> Result<Entry, Memory>
+    ensures { IfOk result (λ e. e ≡ entry_from call (fails why.now)) }
 {
-    if documents > MAX_COUNT {
-        return Ok(Reply::Failed(Text::of(alloc, "TooMany")?));
-    }
-    Ok(Reply::Value(Val::Int(documents as i64)))
+    let why = Text::of(alloc, why)?;
+    Ok(Entry {
+        call,
+        reply: Reply::Failed(why),
+        writes: Seq::new(alloc),
+    })
 }
 
-// Runs a body over so many documents. There is no entry where the arguments aren't its parameters.
-fn run_body(
-    alloc: Global,
-    body: &FunctionBody,
-    call: Call,
-    documents: u64,
-) -> Result<Option<Entry>, Memory>
+// The entry of a call that counts so many documents.
+fn counted_entry(alloc: Global, call: Call, documents: u64) -> Result<Entry, Memory>
+    ensures { IfOk result (λ e. e ≡ entry_from call (counted documents)) }
+{
+    if documents > MAX_COUNT {
+        return failed_entry(alloc, call, "TooMany");
+    }
+    Ok(Entry {
+        call,
+        reply: Reply::Value(Val::Int(documents as i64)),
+        writes: Seq::new(alloc),
+    })
+}
+
+// Runs a body over so many documents.
+fn run_body(alloc: Global, body: &FunctionBody, call: Call, documents: u64) -> Result<Entry, Memory>
     ensures { (ds : Docs) → doc_of (first_id call) ds ≡ None → length (table_docs 0 ds) ≡ documents →
-        IfOk result (λ r. r ≡ (if takes (body_view body.now) call.args then Some (entry_from call (run_body (body_view body.now) call ds)) else None)) }
+        IfOk result (λ e. e ≡ entry_from call (run_body (body_view body.now) call ds)) }
 {
     match body {
         FunctionBody::Insert { param, field } => {
             let Some(value) = argument_of(&call.args, param) else {
-                return Ok(None);
+                return failed_entry(alloc, call, "BadArguments");
             };
             let value = value.copy(alloc)?;
-            Ok(Some(inserted_entry(alloc, call, field, value)?))
+            inserted_entry(alloc, call, field, value)
         }
         FunctionBody::Count => {
-            if call.args.len() != 0 {
-                return Ok(None);
+            if call.args.len() == 0 {
+                counted_entry(alloc, call, documents)
+            } else {
+                failed_entry(alloc, call, "BadArguments")
             }
-            let reply = counted_reply(alloc, documents)?;
-            Ok(Some(Entry {
-                call,
-                reply,
-                writes: Seq::new(alloc),
-            }))
         }
     }
 }
 
-/// The entry that a call adds to the log: the run of the call on the documents that the log left.
-/// There is none exactly where the log is full, holds the call's session and request, or the call
-/// isn't one of a function of the program with just its parameters. It goes over the log.
-pub fn make_entry(
+// Runs a call over so many documents.
+fn run_call(alloc: Global, program: &Module, call: Call, documents: u64) -> Result<Entry, Memory>
+    ensures { (ds : Docs) → doc_of (first_id call) ds ≡ None → length (table_docs 0 ds) ≡ documents →
+        IfOk result (λ e. e ≡ entry_from call (run (program_view program.now) call ds)) }
+{
+    match find_function(program, &call.udf) {
+        Some(function) => run_body(alloc, &function.body, call, documents),
+        None => failed_entry(alloc, call, "UnknownFunction"),
+    }
+}
+
+/// Has the log hold a call, and gives the timestamp of its entry: the one that the log has of the
+/// call's session and request, or else a new one with the run of the call on the documents that the
+/// log left. It searches the timestamps.
+pub fn record_call(
     alloc: Global,
     program: &Module,
-    contents: &Contents,
+    contents: &mut Contents,
     call: Call,
-) -> Result<Option<Entry>, Memory>
-    requires { Holds (program_view program.now) contents.now }
-    ensures { IfOk result (λ r. r ≡ entry_of (program_view program.now) contents.now.entries call) }
+) -> Result<u64, Memory>
+    requires holds { Holds (program_view program.now) contents.old }
+    requires few { length contents.old.entries < 2 ^ 32 }
+    ensures entries { OnOk result (contents.new.entries ≡ after_call (program_view program.now) contents.old.entries call) }
+    ensures holds { OnOk result (Holds (program_view program.now) contents.new) }
+    ensures few { OnOk result (length contents.new.entries ≤ length contents.old.entries + 1) }
+    ensures within { IfOk result (λ ts. (0 < ts) × (ts ≤ length contents.new.entries)) }
+    ensures found { IfOk result (λ ts. (e : EntryOf) → slice_get contents.new.entries (ts - 1) ≡ Some e → found 0 contents.new.entries (pair_in call) ≡ Some (ts, e.reply)) }
 {
-    let entries = contents.entries.as_slice();
-    if entries.len() >= MAX_CALLS || knows(entries, &call) {
-        return Ok(None);
+    if let Some(ts) = contents.find(&call) {
+        return Ok(ts);
     }
-    match find_function(program, &call.udf) {
-        Some(function) => run_body(alloc, &function.body, call, contents.documents),
-        None => Ok(None),
-    }
+    let entry = run_call(alloc, program, call, contents.documents)?;
+    contents.push(entry)?;
+    Ok(contents.entries.as_slice().len() as u64)
 }

@@ -3,7 +3,7 @@ ghost use Rattle.std.specs.Prelude.{List, ℕ, Option, [], ◌≡◌};
 ghost use Rattle.fn_tree.specs.FirstForm.{Program};
 ghost use Rattle.convexd.specs.ModuleText.{IsTextOf};
 ghost use Rattle.convexd.specs.Play.{IsOneLog, play};
-ghost use Rattle.convexd.specs.Replay.{IsGood, Replays, IsDoneOrFault};
+ghost use Rattle.convexd.specs.Replay.{IsGood, Replays, IsDoneOrFault, TellsOfInput};
 ghost use Rattle.convexd.specs.declared.exit.Exit.{Exit};
 
 /// A text is that of at most one program.
@@ -13,10 +13,16 @@ pub fn at_most_one_program()
 
 /// What a script plays is one log: a legal history, told reply by reply.
 pub fn scripts_make_one_log()
-    ensures { (p : Program) (first : ℕ) (lines : List (List ℕ)) → IsOneLog p (play p [] first lines) }
+    ensures { (p : Program) (first : ℕ) (lines : List (List ℕ)) → IsOneLog p lines (play p [] first lines) }
 {}
 
 /// A good input is answered by Done, or by a fault that has a cause of its own.
 pub fn good_inputs_end()
     ensures { (input : List ℕ) → IsGood input → (old new : Option (List ℕ)) (exit : Exit) → Replays input old new exit → IsDoneOrFault exit }
+{}
+
+/// An input has at most one of the answers Done, Module, Script and TooLarge, so each comes exactly where
+/// its cause stands, but for faults and want of memory.
+pub fn answers_exclude_each_other()
+    ensures { (input : List ℕ) (old new again then : Option (List ℕ)) (a b : Exit) → TellsOfInput a → TellsOfInput b → Replays input old new a → Replays input again then b → a ≡ b }
 {}

@@ -1,30 +1,39 @@
 //! The program `convexd`: it plays the script that stands behind a module's text.
 #![tactic(auto)]
 
-mod call_line;
+ghost use Rattle.std.specs.Prelude.{◌≡◌};
+ghost use Rattle.std.specs.Process.{exit_status};
+ghost use Rattle.convexd.specs.Replay.{status_of};
+
 mod contents;
+mod entry_json;
 mod exit;
 mod first_form;
 mod laws;
 mod lines;
 mod play;
 mod replay;
+mod script_line;
 #[cfg(test)]
 mod tests;
 
-pub use call_line::read_call;
-pub use contents::Contents;
+pub use contents::{Contents, record_call};
 use cv_outside::{StdSink, StdSource};
 pub use exit::{Exit, ModuleFault};
 pub use first_form::{FunctionBody, Module, ModuleFunction, find_function, read_module};
-pub use laws::{at_most_one_program, good_inputs_end, scripts_make_one_log};
+pub use laws::{
+    answers_exclude_each_other, at_most_one_program, good_inputs_end, scripts_make_one_log,
+};
 pub use lines::{Parts, cut, line_text, split_line};
 pub use play::{PlayFault, play_script};
 pub use replay::replay_main;
+pub use script_line::{ScriptLine, read_line};
 use std::process::ExitCode;
 use std::{env, io};
 
-fn report(rt: &impl Eprint, exit: Exit) -> ExitCode {
+fn report(rt: &impl Eprint, exit: Exit) -> ExitCode
+    ensures { exit_status result ≡ status_of exit }
+{
     let (status, told) = match exit {
         Exit::Done => (0, Ok(())),
         Exit::Usage => (1, eprintln!(rt; "usage: convexd replay")),
@@ -42,8 +51,12 @@ fn report(rt: &impl Eprint, exit: Exit) -> ExitCode {
 
 fn main(rt: HostRuntime) -> ExitCode {
     let alloc = rt.alloc();
-    let Ok(args) = env::args(&rt) else {
-        return report(&rt, Exit::Usage);
+    let args = match env::args(&rt) {
+        Ok(args) => args,
+        Err(error) if error.kind() == io::ErrorKind::OutOfMemory => {
+            return report(&rt, Exit::Memory);
+        }
+        Err(_) => return report(&rt, Exit::Usage),
     };
     let mut words = Vec::new(alloc);
     for word in args.skip(1) {

@@ -1,22 +1,24 @@
 //! Plays a script, and writes what it answers.
-ghost use Rattle.std.specs.Prelude.{◌≡◌, ◌⊎◌, ◌≤◌, ◌<◌, ◌+◌, ◌^◌, ◌∷◌, ◌++◌, [], length, None, Some, List, ℕ, IfOk, IfErr, OnOk, OnErr, string_bytes};
+ghost use Rattle.std.specs.Prelude.{◌≡◌, ◌≢◌, ◌⊎◌, ◌≤◌, ◌<◌, ◌+◌, ◌^◌, ◌∷◌, ◌++◌, [], length, None, Some, List, ℕ, IfOk, IfErr, OnOk, OnErr, string_bytes};
 ghost use Rattle.convexd.specs.declared.play.PlayFault.TheVariants.{Memory as MemoryFault};
 ghost use Rattle.std.specs.Io.KnownBytes.{Appends};
 ghost use Rattle.cv_outside.specs.Causes.{AppendsPart, Rose};
-ghost use Rattle.fn_tree.specs.History.{History};
-ghost use Rattle.convexd.specs.Contents.{Holds};
+ghost use Rattle.convexd.specs.Contents.{Holds, after_call};
 ghost use Rattle.convexd.specs.Lines.{lines_of};
 ghost use Rattle.convexd.specs.ModuleViews.{program_view};
-ghost use Rattle.convexd.specs.Play.{added, line_output, play, reply_json, reply_line, reply_lines, ts_line};
+ghost use Rattle.convexd.specs.Play.{after_event, entry_lines, event_text, line_output, play, reply_json, reply_line, told, ts_line};
+ghost use Rattle.convexd.specs.ScriptLine.{event_of};
+ghost use Rattle.convexd.specs.declared.script_line.ScriptLine.{ScriptLine};
 
-use crate::call_line::read_call;
-use crate::contents::{Contents, make_entry};
+use crate::contents::{Contents, record_call};
+use crate::entry_json::entry_text;
 use crate::first_form::Module;
 use crate::lines::{line_text, split_line};
+use crate::script_line::{ScriptLine, read_line};
 use cv_json::to_json;
 use cv_outside::{Sink, write_whole};
 use cv_values::{Memory, Text, Val};
-use fn_tree::Reply;
+use fn_tree::{Call, Entry, Reply};
 use serde_json::Value;
 use std::alloc::Global;
 
@@ -80,6 +82,7 @@ fn write_text<K: Sink>(out: &mut K, text: &String) -> Result<(), PlayFault>
     ensures err { OnErr result (AppendsPart (K.held out.old) (K.held out.new) (string_bytes text.now)) }
     ensures fault { IfErr result (λ e. e ≡ PlayFault.Write) }
     ensures write { OnErr result (Rose (K.faults out.old) (K.faults out.new)) }
+    ensures kept { OnOk result (K.faults out.new ≡ K.faults out.old) }
     ensures later { K.faults out.old ≤ K.faults out.new }
 {
     match write_whole(out, text.as_bytes()) {
@@ -88,7 +91,50 @@ fn write_text<K: Sink>(out: &mut K, text: &String) -> Result<(), PlayFault>
     }
 }
 
-/// Plays one line, with this number. The entry stands in the log before its reply is written.
+// Plays a call: writes the reply of its entry, which then stands in the log.
+fn play_call<K: Sink>(
+    alloc: Global,
+    program: &Module,
+    contents: &mut Contents,
+    call: Call,
+    out: &mut K,
+) -> Result<(), PlayFault>
+    requires holds { Holds (program_view program.now) contents.old }
+    requires few { length contents.old.entries < 2 ^ 32 }
+    ensures entries { OnOk result (contents.new.entries ≡ after_call (program_view program.now) contents.old.entries call) }
+    ensures holds { OnOk result (Holds (program_view program.now) contents.new) }
+    ensures few { OnOk result (length contents.new.entries ≤ length contents.old.entries + 1) }
+    ensures done { OnOk result (Appends (K.held out.old) (K.held out.new) (told (after_call (program_view program.now) contents.old.entries call) call)) }
+    ensures part { OnErr result (AppendsPart (K.held out.old) (K.held out.new) (told (after_call (program_view program.now) contents.old.entries call) call)) }
+    ensures fault { IfErr result (λ e. (e ≡ PlayFault.Write) ⊎ (e ≡ PlayFault.Memory)) }
+    ensures write { result ≡ Err PlayFault.Write → Rose (K.faults out.old) (K.faults out.new) }
+    ensures kept { result ≢ Err PlayFault.Write → K.faults out.new ≡ K.faults out.old }
+    ensures later { K.faults out.old ≤ K.faults out.new }
+{
+    let ts = record_call(alloc, program, contents, call)?;
+    let entry = &contents.entries.as_slice()[ts as usize - 1];
+    let reply = reply_text(alloc, ts, &entry.reply)?;
+    write_text(out, &reply)
+}
+
+// Writes the entries of a log.
+fn write_entries<K: Sink>(alloc: Global, entries: &[Entry], out: &mut K) -> Result<(), PlayFault>
+    requires { length entries.now < 2 ^ 32 }
+    ensures done { OnOk result (Appends (K.held out.old) (K.held out.new) (entry_lines 0 entries.now)) }
+    ensures part { OnErr result (AppendsPart (K.held out.old) (K.held out.new) (entry_lines 0 entries.now)) }
+    ensures fault { IfErr result (λ e. (e ≡ PlayFault.Write) ⊎ (e ≡ PlayFault.Memory)) }
+    ensures write { result ≡ Err PlayFault.Write → Rose (K.faults out.old) (K.faults out.new) }
+    ensures kept { result ≢ Err PlayFault.Write → K.faults out.new ≡ K.faults out.old }
+    ensures later { K.faults out.old ≤ K.faults out.new }
+{
+    for (i, entry) in entries.iter().enumerate() {
+        let line = entry_text(alloc, i as u64 + 1, entry)?;
+        write_text(out, &line)?;
+    }
+    Ok(())
+}
+
+// Plays one line, with this number.
 fn play_line<K: Sink>(
     alloc: Global,
     program: &Module,
@@ -99,29 +145,25 @@ fn play_line<K: Sink>(
 ) -> Result<(), PlayFault>
     requires holds { Holds (program_view program.now) contents.old }
     requires few { length contents.old.entries < 2 ^ 32 }
-    ensures done { OnOk result ((es : History) × (added (program_view program.now) contents.old.entries text.now ≡ Some es)
-        × (contents.new.entries ≡ contents.old.entries ++ es) × (length es ≤ 1) × Appends (K.held out.old) (K.held out.new) (reply_lines (length contents.old.entries) es)) }
+    ensures done { OnOk result ((event : ScriptLine) × (event_of text.now ≡ Some event)
+        × (contents.new.entries ≡ after_event (program_view program.now) contents.old.entries event)
+        × Appends (K.held out.old) (K.held out.new) (event_text (program_view program.now) contents.old.entries event)) }
     ensures holds { OnOk result (Holds (program_view program.now) contents.new) }
+    ensures few { OnOk result (length contents.new.entries ≤ length contents.old.entries + 1) }
     ensures script { (n : ℕ) → result ≡ Err (PlayFault.Script n) → (n ≡ number)
-        × (added (program_view program.now) contents.old.entries text.now ≡ None) × Appends (K.held out.old) (K.held out.new) [] }
+        × (event_of text.now ≡ None) × Appends (K.held out.old) (K.held out.new) [] }
     ensures part { (result ≡ Err PlayFault.Write) ⊎ (result ≡ Err PlayFault.Memory) →
         AppendsPart (K.held out.old) (K.held out.new) (line_output (program_view program.now) contents.old.entries text.now) }
     ensures write { result ≡ Err PlayFault.Write → Rose (K.faults out.old) (K.faults out.new) }
+    ensures kept { result ≢ Err PlayFault.Write → K.faults out.new ≡ K.faults out.old }
     ensures later { K.faults out.old ≤ K.faults out.new }
 {
-    if text.is_empty() {
-        return Ok(());
+    match read_line(alloc, text)? {
+        Some(ScriptLine::Empty) => Ok(()),
+        Some(ScriptLine::Log) => write_entries(alloc, contents.entries.as_slice(), out),
+        Some(ScriptLine::Call(call)) => play_call(alloc, program, contents, call, out),
+        None => Err(PlayFault::Script { line: number }),
     }
-    let Some(call) = read_call(alloc, text)? else {
-        return Err(PlayFault::Script { line: number });
-    };
-    let Some(entry) = make_entry(alloc, program, contents, call)? else {
-        return Err(PlayFault::Script { line: number });
-    };
-    let ts = contents.entries.as_slice().len() as u64 + 1;
-    let reply = reply_text(alloc, ts, &entry.reply)?;
-    contents.push(entry)?;
-    write_text(out, &reply)
 }
 
 /// Plays a script whose first line has this number, from an empty log: each line adds its entry and
@@ -142,6 +184,7 @@ pub fn play_script<K: Sink>(
     ensures part { (result ≡ Err PlayFault.Write) ⊎ (result ≡ Err PlayFault.Memory) →
         AppendsPart (K.held out.old) (K.held out.new) (play (program_view program.now) [] line (lines_of script.now)).text }
     ensures write { result ≡ Err PlayFault.Write → Rose (K.faults out.old) (K.faults out.new) }
+    ensures kept { result ≢ Err PlayFault.Write → K.faults out.new ≡ K.faults out.old }
     ensures later { K.faults out.old ≤ K.faults out.new }
 {
     let mut contents = Contents::new(alloc);

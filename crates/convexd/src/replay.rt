@@ -1,6 +1,6 @@
 //! The command that plays a script.
-ghost use Rattle.std.specs.Prelude.{◌≡◌, ◌↔◌, ◌≤◌, length, IfSome, IsTrue, map, string_bytes, codes};
-ghost use Rattle.std.specs.Io.KnownBytes.{IsAtEnd};
+ghost use Rattle.std.specs.Prelude.{◌≡◌, ◌≢◌, ◌⊎◌, ◌↔◌, ◌≤◌, [], length, IfSome, IsTrue, map, string_bytes, codes};
+ghost use Rattle.std.specs.Io.KnownBytes.{Appends, IsAtEnd};
 ghost use Rattle.cv_outside.specs.Causes.{Rose};
 ghost use Rattle.cv_outside.specs.declared.whole.TheConstants.{INPUT_LIMIT};
 ghost use Rattle.convexd.specs.Replay.{replay_words, Replays};
@@ -33,6 +33,7 @@ fn replay_input<O: Sink>(alloc: Global, input: &[u8], out: &mut O) -> Exit
     ensures usage { result ≡ Exit.Usage → ⊥ }
     ensures read { result ≡ Exit.Read → ⊥ }
     ensures write { result ≡ Exit.Write → Rose (O.faults out.old) (O.faults out.new) }
+    ensures kept { result ≢ Exit.Write → O.faults out.new ≡ O.faults out.old }
     ensures later { O.faults out.old ≤ O.faults out.new }
 {
     let parts = match cut(input) {
@@ -66,6 +67,11 @@ pub fn replay_main<I: Source, O: Sink>(
     ensures end { result ≡ Exit.Done → IsAtEnd (I.left input.new) }
     ensures read { result ≡ Exit.Read → Rose (I.faults input.old) (I.faults input.new) }
     ensures write { result ≡ Exit.Write → Rose (O.faults out.old) (O.faults out.new) }
+
+    // No other answer hides a fault, and an answer without the whole input writes nothing.
+    ensures read_kept { result ≢ Exit.Read → I.faults input.new ≡ I.faults input.old }
+    ensures write_kept { result ≢ Exit.Write → O.faults out.new ≡ O.faults out.old }
+    ensures nothing { (result ≡ Exit.Usage) ⊎ ((result ≡ Exit.Read) ⊎ (result ≡ Exit.TooLarge)) → Appends (O.held out.old) (O.held out.new) [] }
 {
     if !says_replay(words) {
         return Exit::Usage;

@@ -1,6 +1,10 @@
 use crate::{Exit, ModuleFault, replay_main};
 use cv_outside::{INPUT_LIMIT, MemSink, MemSource};
+use cv_values::{Fields, Text, Val};
+use lru::LruCache;
 use std::alloc::Global;
+use std::num::NonZeroUsize;
+use std::process::Abort;
 use std::test::Fail;
 
 const MODULE: &str =
@@ -96,33 +100,30 @@ fn other_words_are_usage(rt: HostRuntime) -> Result<(), Fail> {
     Ok(())
 }
 
-// Each stands as line 6, after two good lines of session 1, the first of which is request 1.
+// Each stands as line 6, after one good line.
 #[test]
 fn bad_lines(rt: HostRuntime) -> Result<(), Fail> {
     let alloc = rt.alloc();
-    let rows: [&[u8]; 24] = [
+    let rows: [&[u8]; 21] = [
         b" ",
+        b"log ",
         b"open 0",
         b"call",
         b"call 00000000-0000-0000-0000-000000000001 2 m:size",
         b"call 0000000-0000-0000-0000-000000000001 2 m:size {}",
         b"call 00000000-0000-0000-0000-000000000001  m:size {}",
+        b"call 00000000-0000-0000-0000-000000000001 2  {}",
         b"call 00000000-0000-0000-0000-000000000001 02 m:size {}",
         b"call 00000000-0000-0000-0000-000000000001 +2 m:size {}",
         b"call 00000000-0000-0000-0000-000000000001 4294967296 m:size {}",
-        b"call 00000000-0000-0000-0000-000000000001 2 m:none {}",
         b"call 00000000-0000-0000-0000-000000000001 2 m:size {",
         b"call 00000000-0000-0000-0000-000000000001 2 m:size []",
-        b"call 00000000-0000-0000-0000-000000000001 2 m:size {\"x\":1}",
-        b"call 00000000-0000-0000-0000-000000000001 2 m:add {}",
-        b"call 00000000-0000-0000-0000-000000000001 2 m:add {\"y\":1}",
-        b"call 00000000-0000-0000-0000-000000000001 2 m:add {\"x\":1,\"y\":1}",
+        b"call 00000000-0000-0000-0000-000000000001 2 m:size {\"$integer\":\"AQAAAAAAAAA=\"}",
         b"call 00000000-0000-0000-0000-000000000001 2 m:add {\"x\":\"1\"}",
         b"call 00000000-0000-0000-0000-000000000001 2 m:add {\"x\":1.0}",
         b"call 00000000-0000-0000-0000-000000000001 2 m:add {\"x\":-0}",
         b"call 00000000-0000-0000-0000-000000000001 2 m:add {\"x\":9223372036854775808}",
-        b"call 00000000-0000-0000-0000-000000000001 1 m:add {\"x\":1}",
-        b"call {00000000-0000-0000-0000-000000000001} 1 m:size {}",
+        b"call 00000000-0000-0000-0000-000000000001 2 m:add {\"$x\":1}",
         b"call 00000000-0000-0000-0000-000000000001 2 m:size {}\xff",
         b"%%",
     ];
@@ -142,6 +143,36 @@ fn bad_lines(rt: HostRuntime) -> Result<(), Fail> {
         );
     }
     Ok(())
+}
+
+// What some lines write behind the module, with the last line.
+fn script_writes(rt: &impl Abort, alloc: Global, lines: &str, text: &str) -> Result<(), Fail> {
+    let mut input = MODULE.as_bytes().to_vec(alloc)?;
+    input.extend_from_slice(lines.as_bytes())?;
+    let (ended, written) = replayed(alloc, &["replay"], input, &[], &[])?;
+    assert_eq!(rt; ended, Exit::Done);
+    assert_eq!(rt; written.as_slice(), text.as_bytes());
+    Ok(())
+}
+
+#[test]
+fn errors_are_replies(rt: HostRuntime) -> Result<(), Fail> {
+    script_writes(
+        &rt,
+        rt.alloc(),
+        "call 00000000-0000-0000-0000-000000000001 1 m:none {}\ncall 00000000-0000-0000-0000-000000000001 2 m:add {}\ncall 00000000-0000-0000-0000-000000000001 3 m:add {\"y\":1}\ncall 00000000-0000-0000-0000-000000000001 4 m:add {\"x\":1,\"y\":1}\ncall 00000000-0000-0000-0000-000000000001 5 m:size {\"x\":1}\ncall {00000000-0000-0000-0000-000000000001} 1 m:size {}\ncall 00000000-0000-0000-0000-000000000001 6 m:size {}\n",
+        "reply 1 error \"UnknownFunction\"\nreply 2 error \"BadArguments\"\nreply 3 error \"BadArguments\"\nreply 4 error \"BadArguments\"\nreply 5 error \"BadArguments\"\nreply 1 error \"UnknownFunction\"\nreply 6 ok {\"$integer\":\"AAAAAAAAAAA=\"}\nts 6\n",
+    )
+}
+
+#[test]
+fn row_3_repeated_request_and_log(rt: HostRuntime) -> Result<(), Fail> {
+    script_writes(
+        &rt,
+        rt.alloc(),
+        "call 00000000-0000-0000-0000-000000000001 1 m:add {\"x\":1}\ncall 00000000-0000-0000-0000-000000000001 1 m:add {\"x\":2}\nlog\n",
+        "reply 1 ok {\"$integer\":\"AQAAAAAAAAA=\"}\nreply 1 ok {\"$integer\":\"AQAAAAAAAAA=\"}\nentry {\"args\":{\"x\":{\"$integer\":\"AQAAAAAAAAA=\"}},\"now\":{\"$integer\":\"AAAAAAAAAAA=\"},\"reply\":{\"value\":{\"$integer\":\"AQAAAAAAAAA=\"}},\"request\":1,\"session\":\"00000000-0000-0000-0000-000000000001\",\"ts\":1,\"udf\":\"m:add\",\"writes\":[[\"000000000000000000000000000000000001000000010000\",{\"_creationTime\":{\"$integer\":\"AAAAAAAAAAA=\"},\"_id\":\"000000000000000000000000000000000001000000010000\",\"v\":{\"$integer\":\"AQAAAAAAAAA=\"}}]]}\nts 1\n",
+    )
 }
 
 #[test]
@@ -174,19 +205,45 @@ fn an_input_over_the_limit_is_too_large(rt: HostRuntime) -> Result<(), Fail> {
     Ok(())
 }
 
-// The module's text and the mark are 4 lines.
+// 8,192 documents can be counted, and one more can't.
 #[test]
-fn at_most_8192_lines_call(rt: HostRuntime) -> Result<(), Fail> {
+fn too_many_documents_to_count(rt: HostRuntime) -> Result<(), Fail> {
     let alloc = rt.alloc();
     let mut input = MODULE.as_bytes().to_vec(alloc)?;
-    for request in 0..8193u32 {
+    for request in 0..8192u32 {
         let line = format!(in alloc;
             "call 00000000000000000000000000000001 {request} m:add {{\"x\":{request}}}\n"
         )?;
         input.extend_from_slice(line.as_bytes())?;
     }
+    input.extend_from_slice(b"call 00000000000000000000000000000002 1 m:size {}\n")?;
+    input.extend_from_slice(b"call 00000000000000000000000000000002 2 m:add {\"x\":0}\n")?;
+    input.extend_from_slice(b"call 00000000000000000000000000000002 3 m:size {}\n")?;
     let (ended, written) = replayed(alloc, &["replay"], input, &[], &[])?;
-    assert_eq!(rt; ended, Exit::Script { line: 8197 });
-    assert!(rt; written.ends_with(b"reply 8192 ok {\"$integer\":\"/x8AAAAAAAA=\"}\n"));
+    assert_eq!(rt; ended, Exit::Done);
+    let last =
+        b"reply 8193 ok {\"$integer\":\"ACAAAAAAAAA=\"}\nreply 8194 ok {\"$integer\":\"AAAAAAAAAAA=\"}\nreply 8195 error \"TooMany\"\nts 8195\n";
+    assert!(rt; written.ends_with(last));
+    Ok(())
+}
+
+#[test]
+fn values_are_keys_of_a_cache(rt: HostRuntime) -> Result<(), Fail> {
+    let alloc = rt.alloc();
+    let one = NonZeroUsize::new(1).ok_or("no size")?;
+    let name = Text::of(alloc, "x")?;
+    let mut fields = Fields::new(alloc);
+    drop(fields.insert(name.copy(alloc)?, Val::Int(1))?);
+    let mut by_text = LruCache::new(alloc, one)?;
+    drop(by_text.put(name.copy(alloc)?, 1u8)?);
+    assert_eq!(rt; by_text.get(&name), Some(&1));
+    let mut by_fields = LruCache::new(alloc, one)?;
+    drop(by_fields.put(fields.copy(alloc)?, 2u8)?);
+    assert_eq!(rt; by_fields.get(&fields), Some(&2));
+    let value = Val::Obj(fields);
+    let mut by_value = LruCache::new(alloc, one)?;
+    drop(by_value.put(value.copy(alloc)?, 3u8)?);
+    assert_eq!(rt; by_value.get(&value), Some(&3));
+    assert_eq!(rt; by_value.get(&Val::Null), None);
     Ok(())
 }

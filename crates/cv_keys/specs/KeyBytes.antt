@@ -40,7 +40,7 @@ abbrev mutual
   values_key no_values = 0 ∷ []
   values_key (value v vs) = key v ++ values_key vs
 
-  -- for each name its key as a string and the key of its value, then 00
+  -- each name as a string, and behind it its value; then 00
   pub members_key : Members → List ℕ
   members_key no_members = 0 ∷ []
   members_key (member n v ms) = text_key n ++ key v ++ members_key ms
@@ -59,6 +59,6 @@ abbrev pub end_key : End → List ℕ
 end_key (below q) = place_key q
 end_key (above q) = place_key q ++ 255 ∷ []
 
--- the keys of an interval go from lo up to and without hi
+-- the key is at least lo and below hi
 abbrev pub is_between : List ℕ → List ℕ → List ℕ → Bool
 is_between k lo hi = is_ge (text_cmp k lo) && is_lt (text_cmp k hi)

@@ -41,11 +41,11 @@ EndInRange (above q) = PlaceInRange q
 abbrev pub KeysGoByItems : Type 0
 KeysGoByItems = (x y : Item) → ItemInRange x → ItemInRange y → text_cmp (item_key x) (item_key y) ≡ compare_items x y
 
--- two items have equal keys only where they are equal
+-- different items have different keys
 abbrev pub KeysAreExact : Type 0
 KeysAreExact = (x y : Item) → ItemInRange x → ItemInRange y → item_key x ≡ item_key y → x ≡ y
 
--- no key of an item is a proper prefix of another's
+-- where the key of an item begins with that of another, nothing follows it
 abbrev pub NoKeyIsPrefix : Type 0
 NoKeyIsPrefix = (x y : Item) → ItemInRange x → ItemInRange y → (more : List ℕ) → item_key x ++ more ≡ item_key y → more ≡ []
 
@@ -53,6 +53,6 @@ NoKeyIsPrefix = (x y : Item) → ItemInRange x → ItemInRange y → (more : Lis
 abbrev pub PlacesGoByKeys : Type 0
 PlacesGoByKeys = (p q : Place) → PlaceInRange p → PlaceInRange q → text_cmp (place_key p) (place_key q) ≡ place_cmp p q
 
--- a place lies in an interval exactly where its key is at least that of lo and below that of hi
+-- a place is in an interval just where its key isn't below that of lo, and is below that of hi
 abbrev pub IntervalsHoldByKeys : Type 0
 IntervalsHoldByKeys = (r : Place) (i : PlaceInterval) → PlaceInRange r → EndInRange i.lo → EndInRange i.hi → lies_in r i ≡ is_between (place_key r) (end_key i.lo) (end_key i.hi)

@@ -106,12 +106,11 @@ fn fields_of(range: &Range) -> usize
 }
 
 /// The interval of a range: the keys that begin with those of the equalities and go on between the
-/// bounds. Where the lower end isn't below the upper one, it is made all the same, and holds none.
+/// bounds. A range whose bounds leave nothing between them has an interval too, which holds no key.
 ///
-/// It is refused with `NoIndex` exactly where the table or the index isn't there, and else with
-/// `NoField` exactly where the equalities, with one more if there is a bound, are more than the
-/// index's fields. Both are found before it takes memory. Where it is made, its ends are some that
-/// the key order law speaks of.
+/// A range of an index that isn't there is refused as `NoIndex`; one that names more fields than its
+/// index has, as `NoField`; no other is, and both are found before it takes memory. Where it is made,
+/// its ends are some that the key order law speaks of.
 pub fn interval_of(alloc: Global, schema: &Schema, range: &Range) -> Result<Interval, RangeFault>
     ensures ok { IfOk result (λ i. interval_of schema.now range.now ≡ Ok i) }
     ensures err { IfErr result (λ e. e ≢ RangeFault.Memory → interval_of schema.now range.now ≡ Err e) }

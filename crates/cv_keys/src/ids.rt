@@ -137,8 +137,8 @@ fn id_in(bytes: &[u8]) -> Option<DocId>
     }
 }
 
-/// The id whose text, as a string, has this key, or none exactly where there is none. It takes no
-/// memory.
+/// Reads a key as that of the text of an id: the one id that it is the key of, or none exactly where
+/// it isn't the key of any. It takes no memory.
 pub fn id_of(key: &Key) -> Option<DocId>
     ensures some { IfSome result (λ id. key.now ≡ text_key (id_text id)) }
     ensures one { IfSome result (λ id. (other : Id) → IsId other → key.now ≡ text_key (id_text other) → other ≡ id) }

@@ -5,8 +5,8 @@ use crate::key::Key;
 use cv_values::{Copied, Memory};
 use std::alloc::Global;
 
-/// The keys from `lo` up to and without `hi` in one index of one table. Where `lo` isn't below
-/// `hi`, it holds none.
+/// The keys of one index of one table that are at least `lo` and below `hi`. An interval whose ends
+/// are the wrong way round is one too: it holds no key.
 #[derive(Debug, PartialEq, Eq, Drop)]
 pub struct Interval {
     pub table: u32,

@@ -6,11 +6,11 @@ ghost use Rattle.cv_keys.specs.Touch.{TouchGoesByKeys};
 /// integers fit 64 bits.
 ///
 /// - The byte order of the keys of two items is the order of the items.
-/// - Two items have equal keys only where they are equal.
-/// - No key of an item is a proper prefix of another's.
+/// - Different items have different keys.
+/// - Where the key of an item begins with that of another, nothing follows it.
 /// - The byte order of the keys of two lists of items is the order of the lists.
-/// - A list of items lies in an interval exactly where its key is at least that of the lower end
-///   and below that of the upper end.
+/// - A place is in an interval just where its key isn't below the key of the lower end, and is below
+///   that of the upper one.
 /// - A write touches the bytes of an interval exactly where the place of its old or its new document
 ///   lies in the interval.
 pub fn keys_keep_order()

@@ -10,12 +10,12 @@
 //! |---|---|
 //! | missing | 02 |
 //! | null | 03 |
-//! | integer | 04, then eight bytes, the highest first, with the highest bit flipped |
+//! | integer | 04 and its eight bytes, the highest first, with the sign bit flipped |
 //! | false, true | 05 00, 05 01 |
-//! | string | 06, then its bytes with each 00 written as 00 FF, then 00 01 |
-//! | bytes | 07, then the same |
-//! | array | 08, then the key of each item, then 00 |
-//! | object | 09, then for each name its key as a string and the key of its value, then 00 |
+//! | string | 06, its bytes, where FF stands behind each 00, and the end 00 01 |
+//! | bytes | 07 and the same |
+//! | array | 08, the keys of its items, and the end 00 |
+//! | object | 09, the keys of its members, and the end 00; a member's are those of its name, as of a string, and of its value |
 //!
 //! The key of a list of items joins theirs. Contracts see a key as the list of its bytes.
 #![tactic(auto)]

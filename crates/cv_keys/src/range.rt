@@ -2,6 +2,7 @@ ghost use Rattle.std.specs.Prelude.{◌≡◌, IfOk};
 
 use cv_values::{Copied, Memory, Val, Vals};
 use std::alloc::Global;
+use thiserror::Error;
 
 /// A range of one index of one table: the values of its first fields, and the bounds of the next.
 #[derive(Debug, Drop)]
@@ -22,13 +23,16 @@ pub enum Bound {
 }
 
 /// Why a range has no interval.
-#[derive(Clone, Copy, Debug, PartialEq, Eq)]
+#[derive(Clone, Copy, Debug, PartialEq, Eq, Error)]
 pub enum RangeFault {
     /// The table or the index isn't there.
+    #[error("the table or the index isn't there")]
     NoIndex,
-    /// The equalities, with one more where there is a bound, are more than the index's fields.
+    /// The index has fewer fields than the range names: one for each equality, and one for bounds.
+    #[error("the index has fewer fields than the range names")]
     NoField,
     /// An allocation was refused.
+    #[error("out of memory")]
     Memory,
 }
 

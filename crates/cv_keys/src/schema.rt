@@ -12,8 +12,8 @@ pub struct Schema {
 
 /// A table and its indexes, numbered from 0.
 ///
-/// Who makes a schema keeps this order: index 0 is `by_id` with the field `_id`, index 1 is
-/// `by_creation_time` with `_creationTime` and `_id`, and the declared indexes follow.
+/// Who makes a schema keeps this order: first `by_id` over `_id`, then `by_creation_time` over
+/// `_creationTime` and `_id`, and then the declared ones.
 #[derive(Debug, Drop)]
 pub struct Table {
     pub name: Text,

@@ -35,10 +35,10 @@ impl Copied for Write {
     }
 }
 
-/// Whether a write touches an interval: it is one of the interval's table, and the key of the place
-/// of its old or of its new document lies in the interval. Where there is no such table or index, it
-/// doesn't touch. It compares the documents with the interval's ends as it goes: it makes no key and
-/// takes no memory.
+/// Whether a write touches an interval: the write is one of the interval's table, and a document that
+/// it takes away or puts there has its key in the interval. Nothing touches an interval of an index
+/// that isn't there. It compares the documents with the interval's ends as it goes, byte by byte: it
+/// makes no key and takes no memory.
 pub fn touches(schema: &Schema, w: &Write, i: &Interval) -> bool
     ensures { result ≡ touches schema.now w.now i.now }
 {

@@ -57,6 +57,7 @@ impl Source for MemSource {
         ensures bytes { ReadConsumes (Some self.old.bytes) (Some self.new.bytes) result piece.new }
         ensures cause { HasCause self.old.calls.failed self.new.calls.failed result }
         ensures listed { IsErr result ↔ Contains self.old.calls.fails self.old.calls.made }
+        ensures fits { IfOk result (λ n. n ≡ min (length piece.new) (length self.old.bytes)) }
         ensures made { self.new.calls.made ≡ next self.old.calls.made }
         ensures fails { self.new.calls.fails ≡ self.old.calls.fails }
     {

@@ -1,6 +1,6 @@
 //! Reading a source to its end, and writing a whole text.
-ghost use Rattle.std.specs.Prelude.{◌≡◌, ◌<◌, ◌≤◌, length, IfOk, OnOk, OnErr, IfSome, IsErrOf};
-ghost use Rattle.std.specs.Io.KnownBytes.{Appends, IsAtEnd};
+ghost use Rattle.std.specs.Prelude.{◌≡◌, ◌<◌, ◌≤◌, length, List, ℕ, Err, IfOk, OnOk, OnErr, IfSome, IsErrOf};
+ghost use Rattle.std.specs.Io.KnownBytes.{Appends, Consumes, IsAtEnd};
 ghost use Rattle.cv_outside.specs.Causes.{HasCause, Rose, AppendsPart};
 
 use crate::{Failed, Sink, Source};
@@ -28,7 +28,8 @@ pub fn read_whole<S: Source>(alloc: Global, source: &mut S) -> Result<Vec<u8>, R
     ensures too_large { IsErrOf result ReadFault.TooLarge → IfSome (S.left source.old) (λ all. INPUT_LIMIT < length all) }
     ensures read { IsErrOf result ReadFault.Read → Rose (S.faults source.old) (S.faults source.new) }
     ensures later { S.faults source.old ≤ S.faults source.new }
-    ensures unread { OnOk result (S.faults source.new ≡ S.faults source.old) }
+    ensures kept { (result ≡ Err ReadFault.Read → ⊥) → S.faults source.new ≡ S.faults source.old }
+    ensures taken { IsErrOf result ReadFault.TooLarge → (taken : List ℕ) × Consumes (S.left source.old) (S.left source.new) taken × (INPUT_LIMIT < length taken) }
 {
     let mut bytes = Vec::new(alloc);
     let mut piece = [0u8; 8192];

@@ -6,17 +6,22 @@ ghost use Rattle.cv_values.specs.Value.{values_of, members_of, object};
 use crate::sizes::{depth_of, depth_of_fields, size_of, size_of_fields};
 use crate::text::Text;
 use crate::val::{Fields, Val};
+use thiserror::Error;
 
 /// Why a value is refused. A value that deserves several is refused by the first.
-#[derive(Clone, Copy, Debug, PartialEq, Eq)]
+#[derive(Clone, Copy, Debug, PartialEq, Eq, Error)]
 pub enum ValueFault {
     /// It nests deeper than 64.
+    #[error("arrays and objects nest deeper than 64")]
     TooDeep,
     /// An array has more than 8,192 items, or an object more than 1,024 names.
+    #[error("an array has over 8192 items, or an object over 1024 names")]
     TooMany,
     /// A name is empty or begins with `$`; in fields to be stored, also with `_`.
+    #[error("a name is empty or begins with `$`, or with `_` where it is to be stored")]
     BadName,
     /// It has more than 1,048,576 size units.
+    #[error("the value has over 1048576 size units")]
     TooLarge,
 }
 

@@ -1,4 +1,4 @@
-use Rattle.std.proofs.Common.{◌≡◌, ◌⊎◌, inl, inr, Result, Ok, Err, arith, length-append}
+use Rattle.std.proofs.Common.{◌≡◌, ◌⊎◌, ◌∙◌, inl, inr, Result, Ok, Err, arith, length-append}
 use Rattle.std.specs.Prelude.{OnErr}
 use Rattle.std.proofs.lemmas.Result.{err_from_is_err_and}
 use Rattle.convexd.specs.Lines.{lines_of}
@@ -28,11 +28,11 @@ loop-first-preserved g c =
     record {
       playing = rw d.2 (playing_more (program_view c.args.program.now) c.args.line (lines_of c.args.script.now)
           (g.K.Sink.held c.args.out.now) (g.K.Sink.held c.loop-first.out) (g.K.Sink.held c.play_line.new.out) c.loop-first.contents.entries c.loop-first.number
-          c.in-Some.first.now (lines_of c.in-Some.after.now) d.0 line found d.4);
+          c.in-Some.first.now (lines_of c.in-Some.after.now) d.0 line found d.3);
       holds = c.in_ok-play_line.ensures.holds;
-      few = rw d.2 (omega (arith, length-append c.loop-first.contents.entries d.0, d.3, c.loop-first.invariant.few));
+      few = omega (arith, c.in_ok-play_line.ensures.few, c.loop-first.invariant.few);
       short = omega (arith, c.in-Some.ensures.some.2, c.loop-first.invariant.short);
-      later = omega (arith, c.play_line.ensures.later, c.loop-first.invariant.later);
+      kept = c.in_ok-play_line.ensures.kept (λ e. cc) ∙ c.loop-first.invariant.kept;
     }
 
 pub returns-in_err-end-clause-part : goal.returns-in_err-end-clause-part

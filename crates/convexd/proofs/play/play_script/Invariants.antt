@@ -1,4 +1,4 @@
-use Rattle.std.proofs.Common.{◌≤◌, ◌+◌, length}
+use Rattle.std.proofs.Common.{◌≡◌, ◌≤◌, ◌+◌, length}
 use Rattle.convexd.specs.Contents.{Holds}
 use Rattle.convexd.specs.Lines.{lines_of}
 use Rattle.convexd.specs.ModuleViews.{program_view}
@@ -11,7 +11,7 @@ invariant-loop-first g l = record {
   holds : Holds (program_view l.program) l.contents;
   few : length l.contents.entries + l.line ≤ l.number;
   short : l.number + length l.rest ≤ l.line + length l.script;
-  later : g.K.Sink.faults l.fn.out ≤ g.K.Sink.faults l.out;
+  kept : g.K.Sink.faults l.out ≡ g.K.Sink.faults l.fn.out;
 }
 
 abbrev pub decreases-loop-first : goal.decreases-loop-first

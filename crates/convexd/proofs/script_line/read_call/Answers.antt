@@ -1,6 +1,6 @@
 use Rattle.convexd.specs.WordViews.{words_view}
 use Rattle.convexd.proofs.CallLemmas.{call_of_words}
-use Rattle.convexd.proofs.call_line.read_call.Goals as goal
+use Rattle.convexd.proofs.script_line.read_call.Goals as goal
 
 pub returns-in-Some : goal.returns-in-Some
 returns-in-Some c =

@@ -1,6 +1,6 @@
 use Rattle.std.proofs.Common.{◌≡◌, Option, None, Some, refl}
 use Rattle.uuid.specs.Text.{parsed}
-use Rattle.convexd.proofs.call_line.read_words.Goals as goal
+use Rattle.convexd.proofs.script_line.read_words.Goals as goal
 
 none_from : {X : Type 0} (o : Option X) → ((u : X) → o ≡ Some u → ⊥) → o ≡ None
 none_from None h = refl

@@ -1,7 +1,7 @@
 use Rattle.std.proofs.Common.{◌<◌, length, sym, ◌∙◌, arith}
 use Rattle.std.proofs.lemmas.Bool.Decides.{nat_tests}
 use Rattle.convexd.proofs.CallLemmas.{request_parsed}
-use Rattle.convexd.proofs.call_line.read_request.Goals as goal
+use Rattle.convexd.proofs.script_line.read_request.Goals as goal
 
 pub returns : goal.returns
 returns c =

@@ -1,17 +1,30 @@
-//! The lines of a script that call a function.
+//! What the lines of a script ask for.
 ghost use Rattle.std.specs.Prelude.{◌≡◌, ◌||◌, ◌==◌, nat_lt, not, length, slice_index, IfOk};
 ghost use Rattle.std.specs.Option.{option_map};
 ghost use Rattle.std.specs.List.{list_all};
 ghost use Rattle.std.specs.Char.{is_ascii_digit};
+ghost use Rattle.cv_values.specs.Trees.{tree};
 ghost use Rattle.serde_json.specs.View.{view};
-ghost use Rattle.convexd.specs.CallLine.{cut_word, request_of, words_of, args_of, call_from, call_of};
+ghost use Rattle.convexd.specs.ScriptLine.{cut_word, request_of, words_of, is_integer, are_integers, integer_fields, args_of, call_from, call_of, event_of};
 ghost use Rattle.convexd.specs.WordViews.{words_view};
 
+use cv_json::{JsonFault, from_json};
 use cv_values::{Fields, Memory, Text, Val};
 use fn_tree::Call;
 use serde_json::{Category, Value};
 use std::alloc::Global;
 use uuid::Uuid;
+
+/// What a line of a script asks for.
+#[derive(Drop)]
+pub enum ScriptLine {
+    /// An empty line, which asks for nothing.
+    Empty,
+    /// The entries of the log.
+    Log,
+    /// The run of a mutation.
+    Call(Call),
+}
 
 /// The words of a line that calls a function. The last is the rest of the line.
 #[derive(Clone, Copy)]
@@ -69,24 +82,48 @@ fn read_request(word: &str) -> Option<u32>
     word.parse::<u32>().ok()
 }
 
+fn is_integer(value: &Val) -> bool
+    ensures { result ≡ is_integer (tree value.now) }
+{
+    match value {
+        Val::Int(_) => true,
+        _ => false,
+    }
+}
+
+fn are_integers(fields: &Fields) -> bool
+    ensures { result ≡ are_integers fields.now }
+{
+    for (_name, value) in fields.as_map() {
+        if !is_integer(value) {
+            return false;
+        }
+    }
+    true
+}
+
+fn integer_fields(value: Val) -> Option<Fields>
+    ensures { result ≡ integer_fields (tree value) }
+{
+    match value {
+        Val::Obj(fields) => {
+            if are_integers(&fields) {
+                Some(fields)
+            } else {
+                None
+            }
+        }
+        _ => None,
+    }
+}
+
 fn read_args(alloc: Global, json: &Value) -> Result<Option<Fields>, Memory>
     ensures { IfOk result (λ r. r ≡ args_of (view json.now)) }
 {
-    let Value::Object(map) = json else {
-        return Ok(None);
-    };
-    let mut args = Fields::new(alloc);
-    let mut members = map.iter();
-    match (members.next(), members.next()) {
-        (None, _) => Ok(Some(args)),
-        (Some((name, Value::Number(number))), None) => match number.as_i64() {
-            Some(n) => {
-                drop(args.insert(Text::of(alloc, name.as_str())?, Val::Int(n))?);
-                Ok(Some(args))
-            }
-            None => Ok(None),
-        },
-        _ => Ok(None),
+    match from_json(alloc, json) {
+        Ok(value) => Ok(integer_fields(value)),
+        Err(JsonFault::Memory) => Err(Memory),
+        Err(_) => Ok(None),
     }
 }
 
@@ -109,6 +146,9 @@ fn read_words(alloc: Global, words: &LineWords<'_>) -> Result<Option<Call>, Memo
     let Some(args) = read_args(alloc, &json)? else {
         return Ok(None);
     };
+    if words.udf.is_empty() {
+        return Ok(None);
+    }
     Ok(Some(Call {
         session: session.as_u128(),
         request,
@@ -118,10 +158,7 @@ fn read_words(alloc: Global, words: &LineWords<'_>) -> Result<Option<Call>, Memo
     }))
 }
 
-/// Reads a line of the form `call <uuid> <request> <udf> <json>`, whose JSON is an object with no name,
-/// or with one whose value is a whole number in the range of i64. There is no call exactly where the
-/// line isn't text of this form.
-pub fn read_call(alloc: Global, line: &[u8]) -> Result<Option<Call>, Memory>
+fn read_call(alloc: Global, line: &[u8]) -> Result<Option<Call>, Memory>
     ensures { IfOk result (λ r. r ≡ call_of line.now) }
 {
     let Ok(line) = str::from_utf8(line) else {
@@ -131,4 +168,18 @@ pub fn read_call(alloc: Global, line: &[u8]) -> Result<Option<Call>, Memory>
         Some(words) => read_words(alloc, &words),
         None => Ok(None),
     }
+}
+
+/// Reads what a line says: nothing, `log`, or `call <uuid> <request> <udf> <json>`, whose JSON is read
+/// as an object of integers. There is none exactly where the line is bad.
+pub fn read_line(alloc: Global, line: &[u8]) -> Result<Option<ScriptLine>, Memory>
+    ensures { IfOk result (λ r. r ≡ event_of line.now) }
+{
+    if line.is_empty() {
+        return Ok(Some(ScriptLine::Empty));
+    }
+    if line == b"log".as_slice() {
+        return Ok(Some(ScriptLine::Log));
+    }
+    Ok(read_call(alloc, line)?.map(ScriptLine::Call))
 }
