@@ -1,6 +1,14 @@
 pub mod Documents
 pub mod Examples
 pub mod FirstForm
+pub mod Fronts
+pub mod Grammar
 pub mod History
 pub mod HistoryLaws
+pub mod Language
+pub mod Rules
 pub mod Run
+pub mod Spellings
+pub mod SyntaxTree
+pub mod SyntaxViews
+pub mod Terminals

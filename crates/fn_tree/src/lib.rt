@@ -10,8 +10,15 @@
 
 mod entry;
 mod laws;
+mod lexeme;
+mod syntax;
 #[cfg(test)]
 mod tests;
 
 pub use entry::{Call, Entry, Reply};
 pub use laws::{legal_histories, worked_histories};
+pub use lexeme::{Lexeme, Mark, Terminal, Word};
+pub use syntax::{
+    BinaryOp, BoundExpr, Builtin, CompareOp, Expr, ExprForm, Function, IndexDecl, Kind, Module, Named,
+    Stmt, StmtForm, TableDecl, UnaryOp,
+};
