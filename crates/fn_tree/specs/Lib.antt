@@ -4,3 +4,4 @@ pub mod FirstForm
 pub mod History
 pub mod HistoryLaws
 pub mod Run
+pub mod Spellings

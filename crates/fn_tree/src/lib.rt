@@ -10,8 +10,10 @@
 
 mod entry;
 mod laws;
+mod lexeme;
 #[cfg(test)]
 mod tests;
 
 pub use entry::{Call, Entry, Reply};
 pub use laws::{legal_histories, worked_histories};
+pub use lexeme::{Lexeme, Mark, Terminal, Word};
