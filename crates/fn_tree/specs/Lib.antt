@@ -3,5 +3,10 @@ pub mod Examples
 pub mod FirstForm
 pub mod History
 pub mod HistoryLaws
+pub mod LexemeExamples
+pub mod LexemeLaws
+pub mod LexemeValues
+pub mod Lexemes
+pub mod Nesting
 pub mod Run
 pub mod Spellings

@@ -8,12 +8,14 @@
 //! are this project's own.
 #![tactic(auto)]
 
+mod begin;
 mod entry;
 mod laws;
 mod lexeme;
 #[cfg(test)]
 mod tests;
 
+pub use begin::Begin;
 pub use entry::{Call, Entry, Reply};
-pub use laws::{legal_histories, worked_histories};
+pub use laws::{legal_histories, tokens_of_texts, worked_histories, worked_tokens};
 pub use lexeme::{Lexeme, Mark, Terminal, Word};
