@@ -1,8 +1,11 @@
+pub mod Begins
 pub mod Follows
 pub mod Fronts
 pub mod Language
 pub mod LanguageTables
 pub mod Legal
 pub mod OriginOfIds
+pub mod Places
 pub mod Tables
 pub mod Tokens
+pub mod TokensRead

@@ -6,6 +6,11 @@ pub mod Grammar
 pub mod History
 pub mod HistoryLaws
 pub mod Language
+pub mod LexemeExamples
+pub mod LexemeLaws
+pub mod LexemeValues
+pub mod Lexemes
+pub mod Nesting
 pub mod Rules
 pub mod Run
 pub mod Spellings

@@ -1,5 +1,5 @@
 -- How words and marks are written in a module text.
-use Rattle.std.specs.Prelude.{ℕ, List, codes}
+use Rattle.std.specs.Prelude.{ℕ, List, [], ◌∷◌, codes}
 use Rattle.fn_tree.specs.declared.lexeme.Word.{Word}
 use Rattle.fn_tree.specs.declared.lexeme.Word.TheVariants.{Table, Index, Query, Mutation, Helper, Let, If, Else, For, In, Return, Throw, True, False, Null, Scan, Desc, Take, Count, Get, Insert, Patch, Replace, Delete, Now, Len, Has, Push, Set, Without, Slice, Range, Show, Keys}
 use Rattle.fn_tree.specs.declared.lexeme.Mark.{Mark}
@@ -69,3 +69,15 @@ mark_text Percent = codes "%"
 mark_text AndAnd = codes "&&"
 mark_text OrOr = codes "||"
 mark_text Not = codes "!"
+
+-- the reserved words
+abbrev pub all_words : List Word
+all_words =
+    Table ∷ Index ∷ Query ∷ Mutation ∷ Helper ∷ Let ∷ If ∷ Else ∷ For ∷ In ∷ Return ∷ Throw ∷ True ∷ False ∷ Null ∷ Scan ∷ Desc ∷ Take
+    ∷ Count ∷ Get ∷ Insert ∷ Patch ∷ Replace ∷ Delete ∷ Now ∷ Len ∷ Has ∷ Push ∷ Set ∷ Without ∷ Slice ∷ Range ∷ Show ∷ Keys ∷ []
+
+-- the marks, those of two bytes first
+abbrev pub marks_longest_first : List Mark
+marks_longest_first =
+    Equal ∷ NotEqual ∷ LessEqual ∷ GreaterEqual ∷ AndAnd ∷ OrOr ∷ OpenBrace ∷ CloseBrace ∷ OpenParen ∷ CloseParen ∷ OpenBracket
+    ∷ CloseBracket ∷ Comma ∷ Colon ∷ Semicolon ∷ Dot ∷ Slash ∷ Assign ∷ Less ∷ Greater ∷ Plus ∷ Minus ∷ Star ∷ Percent ∷ Not ∷ []

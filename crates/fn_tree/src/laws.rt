@@ -1,6 +1,8 @@
 //! Laws of the definitions, each a function with nothing to do.
 ghost use Rattle.fn_tree.specs.HistoryLaws.{FrontsAreLegal, GoOnByRuns, IdsHavePairs};
 ghost use Rattle.fn_tree.specs.Examples.{IsWorkedExample};
+ghost use Rattle.fn_tree.specs.LexemeExamples.{IsWorkedTokens, IsWorkedNesting};
+ghost use Rattle.fn_tree.specs.LexemeLaws.{TokensStandApart, TokensAreRead, IntegersFit};
 
 /// A front of a legal history is legal; a legal history goes on by the run of a call whose session
 /// and request it doesn't hold; and each document's id has the session and the request of an entry.
@@ -13,4 +15,18 @@ pub fn legal_histories()
 /// The definitions, computed on two inserts and a count.
 pub fn worked_histories()
     ensures { IsWorkedExample }
+{}
+
+/// The tokens of a text stand apart in it, in order and none empty; each is what the text begins with
+/// at its place; and no integer among them is greater than the greatest of 64 bits.
+pub fn tokens_of_texts()
+    ensures places { TokensStandApart }
+    ensures read { TokensAreRead }
+    ensures integers { IntegersFit }
+{}
+
+/// The tokens of some texts, worked out.
+pub fn worked_tokens()
+    ensures tokens { IsWorkedTokens }
+    ensures nesting { IsWorkedNesting }
 {}

@@ -8,6 +8,7 @@
 //! are this project's own.
 #![tactic(auto)]
 
+mod begin;
 mod entry;
 mod laws;
 mod lexeme;
@@ -15,8 +16,9 @@ mod syntax;
 #[cfg(test)]
 mod tests;
 
+pub use begin::Begin;
 pub use entry::{Call, Entry, Reply};
-pub use laws::{legal_histories, worked_histories};
+pub use laws::{legal_histories, tokens_of_texts, worked_histories, worked_tokens};
 pub use lexeme::{Lexeme, Mark, Terminal, Word};
 pub use syntax::{
     BinaryOp, BoundExpr, Builtin, CompareOp, Expr, ExprForm, Function, IndexDecl, Kind, Module, Named,

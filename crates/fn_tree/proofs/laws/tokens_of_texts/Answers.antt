@@ -1,0 +1,12 @@
+use Rattle.fn_tree.proofs.Places.{tokens_stand_apart}
+use Rattle.fn_tree.proofs.TokensRead.{tokens_are_read, integers_fit}
+use Rattle.fn_tree.proofs.laws.tokens_of_texts.Goals as goal
+
+pub returns-clause-places : goal.returns-clause-places
+returns-clause-places c = tokens_stand_apart
+
+pub returns-clause-read : goal.returns-clause-read
+returns-clause-read c = tokens_are_read
+
+pub returns-clause-integers : goal.returns-clause-integers
+returns-clause-integers c = integers_fit

@@ -1,0 +1,24 @@
+-- Laws of the tokens of texts.
+use Rattle.std.specs.Prelude.{◌≡◌, ℕ, ◌+◌, ◌<◌, ◌≤◌, List, [], ◌∷◌, length, drop, All}
+use Rattle.fn_tree.specs.Lexemes.{begins, lexemes_of, integer_value, greatest_integer}
+use Rattle.fn_tree.specs.LexemeValues.{slice_of}
+use Rattle.fn_tree.specs.declared.begin.Begin.TheVariants.{Token}
+use Rattle.fn_tree.specs.declared.lexeme.Lexeme.{Lexeme}
+use Rattle.fn_tree.specs.declared.lexeme.Terminal.TheVariants.{Integer}
+
+-- tokens that stand apart, in order, none of them empty, from one place up to another
+abbrev pub StandApart : ℕ → ℕ → List Lexeme → Type 0
+StandApart from to [] = from ≤ to
+StandApart from to (x ∷ xs) = (from ≤ x.at) × (0 < x.len) × StandApart (x.at + x.len) to xs
+
+-- the tokens of a text stand apart in it
+abbrev pub TokensStandApart : Type 0
+TokensStandApart = (text : List ℕ) → StandApart 0 (length text) (lexemes_of text).lexemes
+
+-- each token of a text is what the text begins with at its place
+abbrev pub TokensAreRead : Type 0
+TokensAreRead = (text : List ℕ) → All (λ (x : Lexeme). begins (drop x.at text) ≡ Token x.terminal x.len) (lexemes_of text).lexemes
+
+-- no integer of a text is greater than the greatest
+abbrev pub IntegersFit : Type 0
+IntegersFit = (text : List ℕ) → All (λ (x : Lexeme). x.terminal ≡ Integer → integer_value (slice_of text x) ≤ greatest_integer) (lexemes_of text).lexemes
