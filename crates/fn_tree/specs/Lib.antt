@@ -10,7 +10,9 @@ pub mod LexemeExamples
 pub mod LexemeLaws
 pub mod LexemeValues
 pub mod Lexemes
+pub mod ModuleTexts
 pub mod Nesting
+pub mod ParseTrees
 pub mod Rules
 pub mod Run
 pub mod Spellings

@@ -10,6 +10,7 @@
 
 mod begin;
 mod entry;
+mod fault;
 mod laws;
 mod lexeme;
 mod syntax;
@@ -18,6 +19,7 @@ mod tests;
 
 pub use begin::Begin;
 pub use entry::{Call, Entry, Reply};
+pub use fault::{SyntaxFault, Why};
 pub use laws::{legal_histories, tokens_of_texts, worked_histories, worked_tokens};
 pub use lexeme::{Lexeme, Mark, Terminal, Word};
 pub use syntax::{
