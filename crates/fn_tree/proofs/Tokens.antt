@@ -1,5 +1,6 @@
 -- A test of each token, and tests of truth values.
 use Rattle.std.proofs.Common.{ℕ, zero, suc, List, [], ◌∷◌, ◌≡◌, refl, ap, subst, sym, ◌∙◌, Bool, true, false, get_or}
+use Rattle.std.proofs.lemmas.Bool.{eq-eqb, eqb-true}
 use Rattle.fn_tree.specs.Terminals.{number, is}
 use Rattle.fn_tree.specs.declared.lexeme.Terminal.{Terminal}
 use Rattle.fn_tree.specs.declared.lexeme.Terminal.TheVariants.{Name, Integer, Str, Word as ReservedWord, Mark as Punctuation}
@@ -145,3 +146,16 @@ at_each f h t = subst (λ (x : Terminal). f x ≡ true) (at_number t) (all_at f 
 
 pub number_inj : (t u : Terminal) → number t ≡ number u → t ≡ u
 number_inj t u e = sym (at_number t) ∙ ap (λ n. get_or terminals n Name) e ∙ at_number u
+
+pub is_same : (t u : Terminal) → u ≡ t → is t u ≡ true
+is_same t u e = eq-eqb (number t) (number u) (ap number (sym e))
+
+pub is_other : (t u : Terminal) → (u ≡ t → ⊥) → is t u ≡ false
+is_other t u n = is_false (is t u) (λ h. n (sym (number_inj t u (eqb-true (number t) (number u) h))))
+
+pub same_is : (t u : Terminal) → is t u ≡ true → u ≡ t
+same_is t u h = sym (number_inj t u (eqb-true (number t) (number u) h))
+
+pub is_told : (b : Bool) (t u : Terminal) → (b ≡ true → u ≡ t) → (b ≡ false → u ≡ t → ⊥) → b ≡ is t u
+is_told true t u h k = sym (is_same t u (h refl))
+is_told false t u h k = sym (is_other t u (k refl))

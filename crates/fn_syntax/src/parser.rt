@@ -1,0 +1,4 @@
+//! The parser: a descent over the tokens, one small function for each production. Each looks at most
+//! two tokens ahead and takes time in proportion to the tokens that it reads.
+mod class;
+mod cursor;
