@@ -1,1 +1,4 @@
+pub mod Answering
 pub mod Descent
+pub mod Numbers
+pub mod Texts

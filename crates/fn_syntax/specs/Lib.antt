@@ -1,2 +1,6 @@
 pub mod Classes
 pub mod Descents
+pub mod Levels
+pub mod Means
+pub mod Numbers
+pub mod Primaries

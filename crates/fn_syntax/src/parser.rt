@@ -2,3 +2,8 @@
 //! two tokens ahead and takes time in proportion to the tokens that it reads.
 mod class;
 mod cursor;
+mod expression;
+mod list;
+mod name;
+mod primary;
+mod read;

@@ -1,5 +1,6 @@
 pub mod Begins
 pub mod Follows
+pub mod FormViews
 pub mod Fronts
 pub mod Language
 pub mod LanguageTables

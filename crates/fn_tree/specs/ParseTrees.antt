@@ -142,6 +142,14 @@ is_there a = false
 abbrev pub missing : Expr
 missing = expr 0 nothing
 
+abbrev pub count_of : List ℕ → Parse → Expr
+count_of s (pair w (pair o (pair t close))) = expr (token_of w).at (count (named_of s (token_of t)))
+count_of s a = missing
+
+abbrev pub moment_of : Parse → Expr
+moment_of (pair w a) = expr (token_of w).at now
+moment_of a = missing
+
 abbrev mutual
   pub expression_of : List ℕ → Parse → Expr
   expression_of s (pair a more) = ors_of s (conjunction_of s a) more
@@ -189,29 +197,65 @@ abbrev mutual
   postfix_of s a = missing
 
   pub suffixes_of : List ℕ → Expr → Parse → Expr
-  suffixes_of s e (pair a more) = suffixes_of s (expr (at_of e) (suffix_of s e a)) more
+  suffixes_of s e (pair a more) = suffixes_of s (suffix_of s e a) more
   suffixes_of s e a = e
 
   -- a field by its name, or an item
-  pub suffix_of : List ℕ → Expr → Parse → Form
-  suffix_of s e (in_left (pair d n)) = field e (named_of s (token_of n))
-  suffix_of s e (in_right (pair o (pair a close))) = item e (expression_of s a)
-  suffix_of s e a = nothing
+  pub suffix_of : List ℕ → Expr → Parse → Expr
+  suffix_of s e (in_left (pair d n)) = expr (at_of e) (field e (named_of s (token_of n)))
+  suffix_of s e (in_right (pair o (pair a close))) = expr (at_of e) (item e (expression_of s a))
+  suffix_of s e a = missing
 
   pub primary_of : List ℕ → Parse → Expr
   primary_of s (in_left a) = literal_of s (token_of a)
-  primary_of s (in_right (in_left (pair n a))) = expr (token_of n).at (variable_or_call_of s (said s (token_of n)) a)
-  primary_of s (in_right (in_right (in_left (pair w (pair o (pair a close)))))) = expr (token_of w).at (builtin (builtin_of (token_of w).terminal) (exprs_of s a))
-  primary_of s (in_right (in_right (in_right (in_left (pair o (pair a close)))))) = expr (token_of o).at (items (maybe_exprs_of s a))
-  primary_of s (in_right (in_right (in_right (in_right (in_left (pair o (pair a close))))))) = expr (token_of o).at (entries (maybe_entries_of s a))
-  primary_of s (in_right (in_right (in_right (in_right (in_right (in_left (pair o (pair a close)))))))) = expr (token_of o).at (group (expression_of s a))
-  primary_of s (in_right (in_right (in_right (in_right (in_right (in_right (in_left (pair w (pair o a))))))))) = expr (token_of w).at (scan_of s a)
-  primary_of s (in_right (in_right (in_right (in_right (in_right (in_right (in_right (in_left (pair w (pair o (pair t close))))))))))) = expr (token_of w).at (count (named_of s (token_of t)))
-  primary_of s (in_right (in_right (in_right (in_right (in_right (in_right (in_right (in_right (in_left (pair w (pair o (pair a close)))))))))))) = expr (token_of w).at (lookup_as (token_of w).terminal (expression_of s a))
-  primary_of s (in_right (in_right (in_right (in_right (in_right (in_right (in_right (in_right (in_right (in_left (pair w a))))))))))) = expr (token_of w).at now
-  primary_of s (in_right (in_right (in_right (in_right (in_right (in_right (in_right (in_right (in_right (in_right (in_left (pair w (pair o (pair t (pair comma (pair a close)))))))))))))))) = expr (token_of w).at (insert (named_of s (token_of t)) (expression_of s a))
-  primary_of s (in_right (in_right (in_right (in_right (in_right (in_right (in_right (in_right (in_right (in_right (in_right (pair w (pair o (pair (pair a comma) (pair b close))))))))))))))) = expr (token_of w).at (change_as (token_of w).terminal (expression_of s a) (expression_of s b))
+  primary_of s (in_right (in_left a)) = name_or_call_of s a
+  primary_of s (in_right (in_right (in_left a))) = builtin_call_of s a
+  primary_of s (in_right (in_right (in_right (in_left a)))) = array_of s a
+  primary_of s (in_right (in_right (in_right (in_right (in_left a))))) = object_of s a
+  primary_of s (in_right (in_right (in_right (in_right (in_right (in_left a)))))) = group_of s a
+  primary_of s (in_right (in_right (in_right (in_right (in_right (in_right (in_left a))))))) = scan_of s a
+  primary_of s (in_right (in_right (in_right (in_right (in_right (in_right (in_right (in_left a)))))))) = count_of s a
+  primary_of s (in_right (in_right (in_right (in_right (in_right (in_right (in_right (in_right (in_left a))))))))) = lookup_of s a
+  primary_of s (in_right (in_right (in_right (in_right (in_right (in_right (in_right (in_right (in_right (in_left a)))))))))) = moment_of a
+  primary_of s (in_right (in_right (in_right (in_right (in_right (in_right (in_right (in_right (in_right (in_right (in_left a))))))))))) = insertion_of s a
+  primary_of s (in_right (in_right (in_right (in_right (in_right (in_right (in_right (in_right (in_right (in_right (in_right a))))))))))) = change_of s a
   primary_of s a = missing
+
+  pub name_or_call_of : List ℕ → Parse → Expr
+  name_or_call_of s (pair n a) = expr (token_of n).at (variable_or_call_of s (said s (token_of n)) a)
+  name_or_call_of s a = missing
+
+  pub builtin_call_of : List ℕ → Parse → Expr
+  builtin_call_of s (pair w (pair o (pair a close))) = expr (token_of w).at (builtin (builtin_of (token_of w).terminal) (exprs_of s a))
+  builtin_call_of s a = missing
+
+  pub array_of : List ℕ → Parse → Expr
+  array_of s (pair o (pair a close)) = expr (token_of o).at (items (maybe_exprs_of s a))
+  array_of s a = missing
+
+  pub object_of : List ℕ → Parse → Expr
+  object_of s (pair o (pair a close)) = expr (token_of o).at (entries (maybe_entries_of s a))
+  object_of s a = missing
+
+  pub group_of : List ℕ → Parse → Expr
+  group_of s (pair o (pair a close)) = expr (token_of o).at (group (expression_of s a))
+  group_of s a = missing
+
+  pub scan_of : List ℕ → Parse → Expr
+  scan_of s (pair w (pair o (pair t (pair comma (pair i (pair bs (pair close (pair d l)))))))) = expr (token_of w).at (scan (named_of s (token_of t)) (named_of s (token_of i)) (bounds_of s bs) (is_there d) (limit_of s l))
+  scan_of s a = missing
+
+  pub lookup_of : List ℕ → Parse → Expr
+  lookup_of s (pair w (pair o (pair a close))) = expr (token_of w).at (lookup_as (token_of w).terminal (expression_of s a))
+  lookup_of s a = missing
+
+  pub insertion_of : List ℕ → Parse → Expr
+  insertion_of s (pair w (pair o (pair t (pair comma (pair a close))))) = expr (token_of w).at (insert (named_of s (token_of t)) (expression_of s a))
+  insertion_of s a = missing
+
+  pub change_of : List ℕ → Parse → Expr
+  change_of s (pair w (pair o (pair (pair a comma) (pair b close)))) = expr (token_of w).at (change_as (token_of w).terminal (expression_of s a) (expression_of s b))
+  change_of s a = missing
 
   -- a variable, or a call where arguments follow
   pub variable_or_call_of : List ℕ → List ℕ → Parse → Form
@@ -241,11 +285,6 @@ abbrev mutual
   pub more_entries_of : List ℕ → Parse → Entries
   more_entries_of s (pair (pair comma (pair n (pair colon a))) more) = entry (named_of s (token_of n)) (expression_of s a) (more_entries_of s more)
   more_entries_of s a = no_entries
-
-  -- what stands behind the bracket that opens a scan
-  pub scan_of : List ℕ → Parse → Form
-  scan_of s (pair t (pair comma (pair i (pair bs (pair close (pair d l)))))) = scan (named_of s (token_of t)) (named_of s (token_of i)) (bounds_of s bs) (is_there d) (limit_of s l)
-  scan_of s a = nothing
 
   pub bounds_of : List ℕ → Parse → Bounds
   bounds_of s (pair (pair comma (pair n (pair o a))) more) = bound (named_of s (token_of n)) (compare_of (token_of o).terminal) (expression_of s a) (bounds_of s more)

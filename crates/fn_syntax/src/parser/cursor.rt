@@ -6,8 +6,8 @@ ghost use Rattle.fn_tree.specs.Terminals.{is};
 ghost use Rattle.fn_syntax.specs.Classes.{has, next_is};
 ghost use Rattle.fn_syntax.specs.Descents.{IsDescent, Accepts};
 
-use cv_values::Memory;
 use crate::parser::class::Class;
+use cv_values::Memory;
 use fn_tree::{Lexeme, Mark, Terminal, Word};
 
 /// Why a descent stopped.
@@ -21,6 +21,7 @@ pub(crate) enum Stop<'t> {
 
 impl From<Memory> for Stop<'_> {
     ghost use Rattle.fn_syntax.specs.declared.parser.cursor.Stop.{Stop};
+
     ghost from_gives = { λ m r. r ≡ Stop.Memory };
 
     fn from(_: Memory) -> Self {

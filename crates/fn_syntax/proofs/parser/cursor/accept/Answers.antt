@@ -15,6 +15,7 @@ returns-in-Some-clause-is c =
 
 pub returns-in_default-clause-is : goal.returns-in_default-clause-is
 returns-in_default-clause-is c = elim c.in_default.branch [
-    in_default-via-in-Some+else-has w ↦
+  | in_default-via-in-Some+else-has w ↦
       subst (λ (x : List Lexeme). Fails grammar (token (has c.args.class)) x x) (sym w.in-Some.ensures.cases.0) (fails_token (sym w.if-has.ensures))
-  | in_default-via-in_default w ↦ fails_none c.args.tokens.now refl w.in_default.ensures.cases ]
+  | in_default-via-in_default w ↦ fails_none c.args.tokens.now refl w.in_default.ensures.cases
+]
