@@ -1,10 +1,9 @@
 -- The tokens of a module text, over its bytes. Tokens are read longest first.
-use Rattle.std.specs.Prelude.{ℕ, zero, suc, ◌+◌, ◌-◌, Bool, true, false, not, ◌&&◌, ◌||◌, ◌==◌, nat_eq, nat_lt, nat_le, if◌then◌else◌, List, [], ◌∷◌, take, find, length, Option, Some, None, codes}
+use Rattle.std.specs.Prelude.{ℕ, zero, suc, ◌+◌, ◌-◌, ◌*◌, Bool, true, false, not, ◌&&◌, ◌||◌, ◌==◌, nat_eq, nat_lt, nat_le, if◌then◌else◌, List, [], ◌∷◌, take, find, length, Option, Some, None, codes}
 use Rattle.std.specs.Char.{is_ascii_alphabetic, is_ascii_alphanumeric, is_ascii_digit}
 use Rattle.std.specs.List.{prefix_len, starts_with}
 use Rattle.std.specs.Option.{option_map, option_map_or}
 use Rattle.std.specs.Str.{bytes_eq}
-use Rattle.std.specs.Str.Parse.{digits_value}
 use Rattle.fn_tree.specs.Spellings.{word_text, mark_text, all_words, marks_longest_first}
 use Rattle.fn_tree.specs.declared.begin.Begin.{Begin}
 use Rattle.fn_tree.specs.declared.begin.Begin.TheVariants.{Gap, Token, Bad}
@@ -38,9 +37,14 @@ name_begin bs = let n = prefix_len goes_on_name bs in Token (name_terminal (take
 
 -- ---- integers
 
+-- the value of the digits of a number and those that follow them
+abbrev pub value_after : ℕ → List ℕ → ℕ
+value_after n [] = n
+value_after n (d ∷ ds) = value_after (n * 10 + (d - 48)) ds
+
 -- the value of digits
 unfoldable pub integer_value : List ℕ → ℕ
-integer_value digits = digits_value 10 digits
+integer_value digits = value_after 0 digits
 
 -- the greatest integer
 abbrev pub greatest_integer : ℕ

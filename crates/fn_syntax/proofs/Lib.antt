@@ -1,0 +1,5 @@
+pub mod Lexing
+pub mod Numbers
+pub mod Places
+pub mod Reading
+pub mod Texts
