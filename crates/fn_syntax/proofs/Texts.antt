@@ -1,5 +1,5 @@
 -- Bytes as texts.
-use Rattle.std.proofs.Common.{◌≡◌, ℕ, ◌<◌, List, [], length, eq-eqb, inl, inr, refl, sym, ◌∙◌, arith}
+use Rattle.std.proofs.Common.{◌≡◌, ℕ, ◌<◌, List, [], length, eq-eqb, inl, inr, arith}
 use Rattle.std.specs.Str.Lossy.{utf8_valid_len}
 use Rattle.std.proofs.lemmas.Bool.Decides.{eqb_tells}
 use Rattle.fn_tree.specs.LexemeValues.{text_of}

@@ -4,3 +4,4 @@ pub mod Levels
 pub mod Means
 pub mod Numbers
 pub mod Primaries
+pub mod Tokens

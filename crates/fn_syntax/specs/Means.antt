@@ -8,7 +8,7 @@ use Rattle.fn_tree.specs.ParseTrees as tree
 use Rattle.fn_tree.specs.Rules.{bound}
 use Rattle.fn_tree.specs.SyntaxTree as plain
 use Rattle.fn_tree.specs.SyntaxTree.{Exprs, Entries, Bounds, Limit}
-use Rattle.fn_tree.specs.SyntaxViews.{expr_view, exprs_of, entries_of, bounds_of, limit_of}
+use Rattle.fn_tree.specs.SyntaxViews.{expr_view, bound_view, BoundView, exprs_of, entries_of, bounds_of, limit_of}
 use Rattle.fn_tree.specs.declared.syntax.Expr.{Expr}
 use Rattle.fn_tree.specs.declared.syntax.BoundExpr.{BoundExpr}
 use Rattle.fn_tree.specs.declared.syntax.Named.{Named}
@@ -48,7 +48,7 @@ abbrev pub entries_view : Vec (Named × Expr) Global → Entries
 entries_view es = entries_of (map (λ p. (p.0, expr_view p.1)) es.items)
 
 abbrev pub bounds_view : Vec BoundExpr Global → Bounds
-bounds_view bs = bounds_of (map (λ b. (b.field, b.op, expr_view b.value)) bs.items)
+bounds_view bs = bounds_of (map bound_view bs.items)
 
 abbrev pub limit_view : Option Expr → Limit
 limit_view None = plain.all_rows
@@ -60,9 +60,9 @@ IsEntry s e (pair n (pair colon a)) = (e.0 ≡ tree.named_of s (tree.token_of n)
 IsEntry s e a = ⊥
 
 -- a field compared with a value
-abbrev pub IsBound : List ℕ → BoundExpr → Parse → Type 0
-IsBound s b (pair n (pair o a)) = (b.field ≡ tree.named_of s (tree.token_of n)) × (b.op ≡ tree.compare_of (tree.token_of o).terminal) × (expr_view b.value ≡ tree.expression_of s a)
-IsBound s b a = ⊥
+abbrev pub bound_of : List ℕ → Parse → BoundView
+bound_of s (pair n (pair o a)) = (tree.named_of s (tree.token_of n), tree.compare_of (tree.token_of o).terminal, tree.expression_of s a)
+bound_of s a = (tree.named_of s (tree.token_of a), tree.compare_of (tree.token_of a).terminal, tree.missing)
 
 -- the bounds of a scan
 abbrev pub bounds : Prod

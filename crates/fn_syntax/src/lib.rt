@@ -1,7 +1,16 @@
-//! Module texts: their tokens, and the parser, which reads exactly the grammar.
+//! The text of a module: its tokens, and the parser, which reads exactly the grammar and tells the
+//! first fault of bytes that are no such text.
 #![tactic(auto)]
 
+mod lexer;
+mod nesting;
 mod number;
 mod parser;
+#[cfg(test)]
+mod tests;
+mod token;
 mod utf8;
 mod value;
+
+pub use fn_tree::{SyntaxFault, Why};
+pub use token::{Token, TokenKind, tokens};

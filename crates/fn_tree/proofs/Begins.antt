@@ -1,6 +1,6 @@
 -- What some bytes begin with has a byte and lies in them.
-use Rattle.std.proofs.Common.{◌≡◌, ℕ, suc, ◌+◌, ◌<◌, ◌≤◌, List, [], ◌∷◌, length, take, Bool, true, false, not, cond, ◌||◌, refl, ap, inl, inr, ◌⊎◌, sym, arith, lit<, eqb, leb}
-use Rattle.std.specs.Prelude.{◌==◌, nat_eq, nat_lt, Option, Some, None, find, codes, if◌then◌else◌}
+use Rattle.std.proofs.Common.{◌≡◌, ℕ, suc, ◌+◌, ◌<◌, ◌≤◌, List, [], ◌∷◌, length, take, Bool, true, false, not, cond, ◌||◌, refl, ap, inl, inr, ◌⊎◌, sym, arith, lit<, eqb}
+use Rattle.std.specs.Prelude.{nat_eq, nat_lt, Option, Some, None, find, codes, if◌then◌else◌}
 use Rattle.std.specs.Char.{is_ascii_digit}
 use Rattle.std.specs.List.{prefix_len, starts_with}
 use Rattle.std.specs.Option.{option_map, option_map_or}
@@ -10,7 +10,7 @@ use Rattle.std.proofs.lemmas.List.Sums.{prefix_len-le-length}
 use Rattle.std.proofs.lemmas.Slice.Eq.{bytes_eq-Decides}
 use Rattle.std.proofs.lemmas.Bool.Decides.{eqb_tells}
 use Rattle.fn_tree.specs.Spellings.{mark_text, marks_longest_first}
-use Rattle.fn_tree.specs.Lexemes.{begins_name, goes_on_name, name_begin, integer_begin, is_integer, string_len, string_begin, mark_of, mark_begin, is_blank, comment_begin, begins, is_escape, name_terminal}
+use Rattle.fn_tree.specs.Lexemes.{begins_name, goes_on_name, name_begin, integer_begin, is_integer, string_len, string_begin, mark_of, mark_begin, is_blank, comment_begin, begins, is_escape}
 use Rattle.fn_tree.specs.declared.begin.Begin.{Begin}
 use Rattle.fn_tree.specs.declared.begin.Begin.TheVariants.{Gap, Token, Bad}
 use Rattle.fn_tree.specs.declared.lexeme.Mark.{Mark}

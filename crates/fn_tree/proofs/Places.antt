@@ -1,5 +1,5 @@
 -- The tokens of a text stand apart in it.
-use Rattle.std.proofs.Common.{◌≡◌, ℕ, zero, suc, ◌+◌, ◌-◌, ◌<◌, ◌≤◌, List, [], ◌∷◌, length, refl, subst, arith}
+use Rattle.std.proofs.Common.{◌≡◌, ℕ, zero, suc, ◌+◌, ◌-◌, ◌≤◌, List, [], ◌∷◌, length, arith}
 use Rattle.fn_tree.specs.Lexemes.{begins, begin_len, Lexed, put_begin, lexed_from, lexemes_of}
 use Rattle.fn_tree.specs.LexemeLaws.{StandApart, TokensStandApart}
 use Rattle.fn_tree.specs.declared.begin.Begin.{Begin}

@@ -1,6 +1,6 @@
 -- Each token of a text is what the text begins with at its place.
-use Rattle.std.proofs.Common.{◌≡◌, ℕ, zero, suc, ◌+◌, ◌-◌, ◌<◌, ◌≤◌, List, [], ◌∷◌, length, take, drop, Bool, true, false, not, ◌&&◌, ◌||◌, eqb, leb, refl, sym, ◌∙◌, ap, subst, inl, inr, ◌⊎◌, arith, get_or}
-use Rattle.std.specs.Prelude.{All, nat_eq, nat_le, codes, if◌then◌else◌, Option, Some, None}
+use Rattle.std.proofs.Common.{◌≡◌, ℕ, zero, suc, ◌+◌, ◌-◌, ◌≤◌, List, [], ◌∷◌, length, take, drop, Bool, true, false, not, ◌&&◌, ◌||◌, eqb, refl, sym, ◌∙◌, ap, inl, inr, ◌⊎◌, arith}
+use Rattle.std.specs.Prelude.{All, nat_eq, nat_le, codes, Option, Some, None}
 use Rattle.std.specs.Char.{is_ascii_digit}
 use Rattle.std.specs.List.{prefix_len, starts_with}
 use Rattle.std.specs.Option.{option_map_or}
@@ -10,7 +10,7 @@ use Rattle.std.proofs.lemmas.Slice.Eq.{bytes_eq-Decides}
 use Rattle.std.proofs.lemmas.List.{drop-drop}
 use Rattle.std.proofs.lemmas.List.Elements.{All-cons}
 use Rattle.fn_tree.specs.Spellings.{mark_text}
-use Rattle.fn_tree.specs.Lexemes.{begins, begins_name, begin_len, Lexed, put_begin, lexed_from, lexemes_of, name_begin, name_terminal, word_of, integer_begin, integer_value, is_integer, greatest_integer, string_begin, string_len, is_blank, comment_begin, mark_begin, mark_of}
+use Rattle.fn_tree.specs.Lexemes.{begins, begins_name, begin_len, Lexed, put_begin, lexed_from, lexemes_of, name_begin, word_of, integer_begin, integer_value, is_integer, greatest_integer, string_begin, string_len, is_blank, comment_begin, mark_of}
 use Rattle.fn_tree.specs.LexemeLaws.{TokensAreRead, IntegersFit}
 use Rattle.fn_tree.specs.declared.begin.Begin.{Begin}
 use Rattle.fn_tree.specs.declared.begin.Begin.TheVariants.{Gap, Token, Bad}

@@ -1,10 +1,10 @@
 -- The tokens of some texts, worked out.
-use Rattle.std.specs.Prelude.{◌≡◌, ℕ, List, [], ◌∷◌, codes, Option, Some, None}
+use Rattle.std.specs.Prelude.{◌≡◌, ℕ, List, [], ◌∷◌, codes, Some, None}
 use Rattle.fn_tree.specs.Lexemes.{Lexed, lexemes_of}
-use Rattle.fn_tree.specs.LexemeValues.{slice_of, string_value, number_of}
+use Rattle.fn_tree.specs.LexemeValues.{string_value}
 use Rattle.fn_tree.specs.Nesting.{first_deeper}
 use Rattle.fn_tree.specs.declared.lexeme.Lexeme.{Lexeme}
-use Rattle.fn_tree.specs.declared.lexeme.Mark.TheVariants.{OpenParen, CloseParen, OpenBrace, LessEqual}
+use Rattle.fn_tree.specs.declared.lexeme.Mark.TheVariants.{LessEqual}
 use Rattle.fn_tree.specs.declared.lexeme.Terminal.{Terminal}
 use Rattle.fn_tree.specs.declared.lexeme.Terminal.TheVariants.{Name, Integer, Str, Word as Reserved, Mark as Marked}
 use Rattle.fn_tree.specs.declared.lexeme.Word.TheVariants.{Let}

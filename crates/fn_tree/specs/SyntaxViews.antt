@@ -6,6 +6,7 @@ use Rattle.fn_tree.specs.SyntaxTree.{Exprs, no_exprs, then_expr, Entries, no_ent
 use Rattle.fn_tree.specs.declared.syntax.CompareOp.{CompareOp}
 use Rattle.fn_tree.specs.declared.syntax.Named.{Named}
 use Rattle.fn_tree.specs.declared.syntax.Expr.{Expr, fold-Expr}
+use Rattle.fn_tree.specs.declared.syntax.BoundExpr.{BoundExpr, fold-BoundExpr}
 use Rattle.fn_tree.specs.declared.syntax.ExprForm.{ExprForm, fold-ExprForm}
 use Rattle.fn_tree.specs.declared.syntax.ExprForm.TheOpen.{ExprForm-F, Expr-F, BoundExpr-F}
 use Rattle.fn_tree.specs.declared.syntax.Stmt.{Stmt, fold-Stmt}
@@ -78,6 +79,9 @@ bound_step b = (b.field, b.op, b.value)
 abbrev pub expr_view : Expr → plain.Expr
 expr_view = fold-Expr plain.Form BoundView plain.Expr form_step bound_step expr_step
 
+abbrev pub bound_view : BoundExpr → BoundView
+bound_view = fold-BoundExpr plain.Form BoundView plain.Expr form_step bound_step expr_step
+
 abbrev pub form_view : ExprForm → plain.Form
 form_view = fold-ExprForm plain.Form BoundView plain.Expr form_step bound_step expr_step
 
@@ -98,6 +102,11 @@ stmt_view = fold-Stmt plain.Act plain.Stmt act_step stmt_step
 
 abbrev pub act_view : StmtForm → plain.Act
 act_view = fold-StmtForm plain.Act plain.Stmt act_step stmt_step
+
+-- the other branch of a choice
+abbrev pub else_view : Option (Vec Stmt Global) → Else
+else_view None = no_else
+else_view (Some b) = or_else (stmts_of (map stmt_view b.items))
 
 abbrev pub function_view : Function → FunctionTree
 function_view f = record { kind = f.kind; udf = f.udf; params = f.params.items; body = stmts_of (map stmt_view f.body.items); at = f.at }

@@ -1,23 +1,24 @@
-/// Why some bytes are no module text, and the place in bytes at which that shows.
+/// Why bytes are no text of a module.
+#[derive(Clone, Copy, Debug, PartialEq, Eq)]
+pub enum Why {
+    /// More than 1,048,576 bytes.
+    TooLong,
+    /// Bytes that aren't UTF-8.
+    NotUtf8,
+    /// No token begins here: digits after a leading zero or above the greatest integer, a string
+    /// without an end or with a wrong escape, or another character.
+    BadToken,
+    /// A bracket opens inside 32 open ones.
+    TooDeep,
+    /// The tokens up to this one begin no module.
+    WrongToken,
+    /// The tokens begin a module that goes on.
+    EarlyEnd,
+}
+
+/// The first fault of a text, and the byte at which it is.
 #[derive(Clone, Copy, Debug, PartialEq, Eq)]
 pub struct SyntaxFault {
     pub at: u64,
     pub why: Why,
-}
-
-/// What is wrong with a text.
-#[derive(Clone, Copy, Debug, PartialEq, Eq)]
-pub enum Why {
-    /// The text has more than 1,048,576 bytes.
-    TooLong,
-    /// The bytes stop being UTF-8.
-    NotUtf8,
-    /// No token begins here.
-    BadToken,
-    /// A bracket is opened inside 32 open ones.
-    TooDeep,
-    /// With this token the tokens are no front of a module.
-    WrongToken,
-    /// The text ends before the module does.
-    EarlyEnd,
 }

@@ -1,5 +1,5 @@
 ghost use Rattle.std.specs.Prelude.{◌≡◌, IfOk};
-ghost use Rattle.fn_tree.specs.SyntaxViews.{expr_view, form_view};
+ghost use Rattle.fn_tree.specs.SyntaxViews.{expr_view, form_view, bound_view, stmt_view, act_view};
 ghost use Rattle.fn_tree.specs.SyntaxTree as plain;
 
 use cv_values::{Memory, Text};
@@ -179,5 +179,23 @@ impl Expr {
             at,
             form: Box::new(alloc, form)?,
         })
+    }
+}
+
+impl BoundExpr {
+    /// The bound that compares a field with a value.
+    pub fn new(field: Named, op: CompareOp, value: Expr) -> BoundExpr
+        ensures { bound_view result ≡ (field, op, expr_view value) }
+    {
+        BoundExpr { field, op, value }
+    }
+}
+
+impl Stmt {
+    /// The statement of a form at a place.
+    pub fn new(at: u64, form: StmtForm) -> Stmt
+        ensures { stmt_view result ≡ plain.stmt at (act_view form) }
+    {
+        Stmt { at, form }
     }
 }

@@ -4,7 +4,7 @@ ghost use Rattle.fn_tree.specs.Grammar.Prod.{rule, token, turns, seq};
 ghost use Rattle.fn_tree.specs.Grammar.{opt};
 ghost use Rattle.fn_tree.specs.ParseTrees as tree;
 ghost use Rattle.fn_tree.specs.Rules as rules;
-ghost use Rattle.fn_tree.specs.SyntaxViews.{expr_view, form_view};
+ghost use Rattle.fn_tree.specs.SyntaxViews.{expr_view, form_view, bound_view};
 ghost use Rattle.fn_syntax.specs.Descents.{IsDescent};
 ghost use Rattle.fn_syntax.specs.Means as means;
 
@@ -60,14 +60,14 @@ fn bounds<'t>(alloc: Global, text: &str, tokens: &'t [Lexeme]) -> Parsed<'t, Vec
 // A field compared with a value.
 #[cycle(expressions)]
 fn bound<'t>(alloc: Global, text: &str, tokens: &'t [Lexeme]) -> Parsed<'t, BoundExpr>
-    ensures is { IsDescent (rule rules.bound) (λ b a. means.IsBound text.now b a) tokens.now result }
+    ensures is { IsDescent (rule rules.bound) (λ b a. bound_view b ≡ means.bound_of text.now a) tokens.now result }
     ensures shorter { IfOk result (λ x. length x.1.now < length tokens.now) }
 {
     let (field, rest) = expect_named(alloc, text, tokens, Class::FieldName)?;
     let (operator, rest) = expect(rest, Class::BoundOperator)?;
     let (value, rest) = expression(alloc, text, rest)?;
     let op = compare_of(operator.terminal);
-    Ok((BoundExpr { field, op, value }, rest))
+    Ok((BoundExpr::new(field, op, value), rest))
 }
 
 // Whether the rows are wanted from the last.

@@ -1,6 +1,7 @@
 use Rattle.std.proofs.Common.{rules, ◌≡◌, refl}
 use Rattle.fn_tree.specs.Grammar.{pair}
 use Rattle.fn_tree.specs.Rules.{moment}
+use Rattle.fn_tree.proofs.FormViews.{form-Now}
 use Rattle.fn_tree.proofs.Language.{clear}
 use Rattle.fn_syntax.proofs.Descent.{makes_call, then, misses}
 use Rattle.fn_syntax.proofs.Answering.{missed, the_token}
@@ -24,5 +25,5 @@ returns-clause-is c =
     record {
       parse = pair c.in_ok-word.ensures.is.parse (pair c.in_ok-rest.ensures.is.parse c.in_ok-rest-2.ensures.is.parse);
       finds = (then (then (makes_call moment) (clear _ _ refl refl) c.in_ok-word.ensures.is.finds) (clear _ _ refl refl) c.in_ok-rest.ensures.is.finds).found _ _ c.in_ok-rest-2.ensures.is.finds;
-      says = rw (← w) c.in_ok-new.ensures;
+      says = rw (← w, ← form-Now) c.in_ok-new.ensures;
     }
