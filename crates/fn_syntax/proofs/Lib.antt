@@ -1,7 +1,10 @@
 pub mod Answering
+pub mod Choices
 pub mod Descent
 pub mod Lexing
 pub mod Numbers
+pub mod Parts
 pub mod Places
 pub mod Reading
+pub mod Said
 pub mod Texts

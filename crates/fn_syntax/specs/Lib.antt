@@ -1,7 +1,9 @@
 pub mod Classes
+pub mod Declarations
 pub mod Descents
 pub mod Levels
 pub mod Means
 pub mod Numbers
 pub mod Primaries
+pub mod Statements
 pub mod Tokens
