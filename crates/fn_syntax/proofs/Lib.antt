@@ -8,3 +8,4 @@ pub mod Places
 pub mod Reading
 pub mod Said
 pub mod Texts
+pub mod Wholes

@@ -1,7 +1,7 @@
 -- What the functions of declarations make of a parse, and what one over all tokens answers.
-use Rattle.std.specs.Prelude.{◌≡◌, ℕ, List, [], Result, Ok, Err}
-use Rattle.fn_tree.specs.Fronts.{Ends}
-use Rattle.fn_tree.specs.Grammar.{Prod, token, seq, turns, rule, endless, Parse, Takes, Reads}
+use Rattle.std.specs.Prelude.{◌≡◌, ℕ, List, [], ◌∷◌, Result, Ok, Err}
+use Rattle.fn_tree.specs.Fronts.{Finds, Fails}
+use Rattle.fn_tree.specs.Grammar.{Prod, token, seq, turns, rule, endless, Parse}
 use Rattle.fn_tree.specs.Language.{grammar, word, mark, name}
 use Rattle.fn_tree.specs.ParseTrees as tree
 use Rattle.fn_tree.specs.Rules as rules
@@ -30,14 +30,17 @@ parts = turns endless (seq (mark Slash) (token is_part))
 abbrev pub IsPath : List ℕ → FunctionPath → Parse → Type 0
 IsPath s p a = (p.text ≡ tree.path_of s a) × (p.at ≡ tree.path_at a)
 
--- The tokens before the rest are a front of the production, no front goes further, and all are no text of it.
-pub record StopsIn (p : Prod) (ts rest : List Lexeme) : Type 0 where
-  pub reads : Reads grammar p ts rest
-  pub last : (l : List Lexeme) → Reads grammar p ts l → Ends rest l
-  pub none : (a : Parse) → Takes grammar p a ts [] → ⊥
+-- not all tokens are a text of the production: it fails, or is found where tokens are left
+pub data StopsIn (p : Prod) (ts rest : List Lexeme) : Type 0 where
+  fails : Fails grammar p ts rest → StopsIn p ts rest
+  ends : {a : Parse} {c : Lexeme} {l : List Lexeme} → rest ≡ c ∷ l → Finds grammar p a ts rest → StopsIn p ts rest
+
+-- it stops there, and memory may be wanted at any time
+abbrev pub WholeStops : Prod → List Lexeme → Stop → Type 0
+WholeStops p ts Memory = Unit {0}
+WholeStops p ts (Wrong rest) = StopsIn p ts rest.now
 
 -- all tokens are a text of the production, with a parse of this meaning, or where they stop being one
 abbrev pub IsWhole : {A : Type 0} → Prod → (A → Parse → Type 0) → List Lexeme → Result A Stop → Type 0
 IsWhole p means ts (Ok x) = Found p (means x) ts []
-IsWhole p means ts (Err Memory) = Unit {0}
-IsWhole p means ts (Err (Wrong rest)) = StopsIn p ts rest.now
+IsWhole p means ts (Err why) = WholeStops p ts why
