@@ -1,0 +1,12 @@
+pub mod Laws
+pub mod Bounds
+pub mod Crosses
+pub mod Found
+pub mod Inserted
+pub mod Kept
+pub mod Removed
+pub mod Searched
+pub mod Sharing
+pub mod Shown
+pub mod Values
+pub mod Words
