@@ -13,6 +13,8 @@ mod change;
 mod nodes;
 mod order;
 mod search;
+#[cfg(test)]
+mod tests;
 mod tree;
 mod visit;
 
