@@ -1,5 +1,6 @@
 -- What a search may leave out.
-use Rattle.std.proofs.Common.{◌≡◌, suc, ◌+◌, Bool, true, false, not, ◌&&◌, ◌||◌, cond, List, [], ◌∷◌, ◌++◌, Some, refl, sym, ap, ◌∙◌, subst, arith}
+use Rattle.std.proofs.Common.{◌≡◌, suc, ◌+◌, Bool, true, false, not, ◌&&◌, ◌||◌, cond, [], ◌∷◌, ◌++◌, Some, refl, sym, ap, ◌∙◌, subst, arith}
+use Rattle.std.proofs.lemmas.List.{append-nil}
 use Rattle.cv_keys.specs.declared.interval.Interval.{Interval}
 use Rattle.range_tree.specs.Points.{Point, point_lt, low, end}
 use Rattle.range_tree.proofs.Laws.{lt_trans, lt_cotrans}
@@ -108,10 +109,6 @@ module _ (x : Point) where
   over Leaf n e f = cc
   over (Fork p l m r) n e f = (none_hit (Fork p l m r) f, ap (λ y. suc (cond y (visits S R l + cond (S m) (visits S R r) 0) 0)) f)
 
-  append_nothing : (xs : List Node) → xs ++ [] ≡ xs
-  append_nothing [] = refl
-  append_nothing (y ∷ ys) = λ i. y ∷ append_nothing ys i
-
   pub before : (t : Tree) (n : Node) → node_of t ≡ Some n → some_reaches S R t ≡ true → S n ≡ false → IsCutAt x t → (hits S R t ≡ hits S R (left_of t)) × (visits S R t ≡ suc (visits S R (left_of t)))
   before Leaf n e f g k = cc
   before (Fork p l m r) n e f g k =
@@ -119,7 +116,7 @@ module _ (x : Point) where
       let h : (S m && R m) ≡ false = ap (λ y. y && R m) at in
       let a : here S R m ++ hits S R r ≡ [] = rw (none_starts r (k.1 at), h) refl in
       let v : visits S R l + cond (S m) (visits S R r) 0 ≡ visits S R l = rw at (omega arith) in
-      (rw a (append_nothing (hits S R l)), ap (λ y. suc (cond y (visits S R l + cond (S m) (visits S R r) 0) 0)) f ∙ ap suc v)
+      (rw a (append-nil (hits S R l)), ap (λ y. suc (cond y (visits S R l + cond (S m) (visits S R r) 0) 0)) f ∙ ap suc v)
 
   pub both_ways : (t : Tree) (n : Node) → node_of t ≡ Some n → some_reaches S R t ≡ true → S n ≡ true → (hits S R t ≡ hits S R (left_of t) ++ (cond (R n) (n ∷ []) [] ++ hits S R (right_of t))) × (visits S R t ≡ suc (visits S R (left_of t) + visits S R (right_of t)))
   both_ways Leaf n e f g = cc

@@ -11,10 +11,11 @@ ends_before s Leaf = false
 ends_before Leaf (Fork p l n r) = true
 ends_before (Fork q k m u) (Fork p l n r) = point_lt (end m.interval) (end n.interval)
 
+-- the tree whose topmost node ends later, the first of two that end at the same point
 abbrev pub further_of : Tree → Tree → Tree
 further_of s t = cond (ends_before s t) t s
 
--- the part whose topmost node has the greatest end
+-- the part of the tree whose topmost node has the greatest end
 abbrev pub best_of : Tree → Tree
 best_of Leaf = Leaf
 best_of (Fork p l n r) = further_of (further_of (Fork p l n r) (best_of l)) (best_of r)

@@ -12,6 +12,7 @@ abbrev pub tree_owns : Tree → Fml
 tree_owns Leaf = ftrue
 tree_owns (Fork p l n r) = fsep (box_owns chunk the_row p n) (fsep (tree_owns l) (tree_owns r))
 
+-- each node, lent for reading
 abbrev pub tree_lent : Tree → Lft → Fml
 tree_lent Leaf = nothing
 tree_lent (Fork p l n r) = beside (lent_at the_row p n) (beside (tree_lent l) (tree_lent r))

@@ -13,13 +13,14 @@ Point = ℕ × ℕ × List ℕ
 abbrev pub point_cmp : Point → Point → Ordering
 point_cmp p q = ordering_then (ordering_then (nat_cmp p.0 q.0) (nat_cmp p.1 q.1)) (slice_cmp nat_cmp p.2 q.2)
 
+-- whether the one point comes before the other
 abbrev pub point_lt : Point → Point → Bool
 point_lt p q = is_lt (point_cmp p q)
 
--- the first point that is not before the interval
+-- where the interval begins: its first point
 abbrev pub low : Interval → Point
 low i = (i.table, i.index, i.lo)
 
--- the first point that is behind the interval
+-- where the interval ends: the first point behind it
 abbrev pub end : Interval → Point
 end i = (i.table, i.index, i.hi)

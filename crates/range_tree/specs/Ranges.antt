@@ -15,9 +15,11 @@ Owned = Interval × ℕ
 abbrev pub owned_cmp : Owned → Owned → Ordering
 owned_cmp x y = ordering_then (ordering_then (point_cmp (low x.0) (low y.0)) (slice_cmp nat_cmp x.0.hi y.0.hi)) (nat_cmp x.1 y.1)
 
+-- whether the one comes before the other
 abbrev pub owned_lt : Owned → Owned → Bool
 owned_lt x y = is_lt (owned_cmp x y)
 
+-- x is before each of the list
 abbrev pub AllAfter : Owned → List Owned → Type 0
 AllAfter x [] = Unit {0}
 AllAfter x (y ∷ ys) = (owned_lt x y ≡ true) × AllAfter x ys

@@ -5,6 +5,7 @@ use Rattle.cv_keys.specs.declared.interval.Interval.{Interval}
 use Rattle.range_tree.specs.declared.nodes.memory.Node.{Node}
 use Rattle.range_tree.specs.Tree.{Tree, Leaf, Fork}
 
+-- the interval of the topmost node
 abbrev pub interval_of : Tree → Option Interval
 interval_of Leaf = None
 interval_of (Fork p l n r) = Some n.interval
@@ -13,13 +14,16 @@ interval_of (Fork p l n r) = Some n.interval
 abbrev pub starts_at : Point → Node → Bool
 starts_at x n = not (point_lt x (low n.interval))
 
+-- the interval ends after the point
 abbrev pub reaches_past : Point → Node → Bool
 reaches_past x n = point_lt x (end n.interval)
 
+-- the owners of nodes, in order
 abbrev pub owners : List Node → List ℕ
 owners = map (λ n. n.owner)
 
 module _ (x : Point) where
+  -- each node begins at the point or before it, or each after it
   abbrev pub AllStartAt : Bool → Tree → Type 0
   AllStartAt b Leaf = Unit {0}
   AllStartAt b (Fork p l n r) = (starts_at x n ≡ b) × (AllStartAt b l × AllStartAt b r)

@@ -1,12 +1,14 @@
--- What a tree of nodes is: its list, its height, its balance, and what a search looks at.
+-- The height of a tree, its size, its balance, and what a search looks at.
 use Rattle.std.specs.Prelude.{◌≡◌, ℕ, suc, ◌+◌, ◌≤◌, max, Bool, true, false, ◌&&◌, ◌||◌, cond, List, [], ◌∷◌, ◌++◌}
 use Rattle.range_tree.specs.declared.nodes.memory.Node.{Node}
 use Rattle.range_tree.specs.Tree.{Tree, Leaf, Fork}
 
+-- the number of nodes on the longest way down
 abbrev pub height : Tree → ℕ
 height Leaf = 0
 height (Fork p l n r) = suc (max (height l) (height r))
 
+-- the number of nodes
 abbrev pub size : Tree → ℕ
 size Leaf = 0
 size (Fork p l n r) = size l + size r + 1
@@ -18,10 +20,12 @@ IsBalanced (Fork p l n r) = (IsBalanced l × IsBalanced r) × (height l ≤ heig
 
 -- a search for a point: starts says that a node's interval begins at the point or before it, and reaches that it ends after it
 module _ (starts reaches : Node → Bool) where
+  -- whether a node of the tree ends after the point
   abbrev pub some_reaches : Tree → Bool
   some_reaches Leaf = false
   some_reaches (Fork p l n r) = reaches n || (some_reaches l || some_reaches r)
 
+  -- the node, if its interval has the point
   abbrev pub here : Node → List Node
   here n = cond (starts n && reaches n) (n ∷ []) []
 
@@ -35,6 +39,7 @@ module _ (starts reaches : Node → Bool) where
   visits Leaf = 0
   visits (Fork p l n r) = suc (cond (some_reaches (Fork p l n r)) (visits l + cond (starts n) (visits r) 0) 0)
 
+  -- each node begins at the point or before it
   abbrev pub AllStart : Tree → Type 0
   AllStart Leaf = Unit {0}
   AllStart (Fork p l n r) = (starts n ≡ true) × (AllStart l × AllStart r)

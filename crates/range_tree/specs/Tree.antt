@@ -1,5 +1,6 @@
 -- The shape of a tree: where each node lies, and what stands in it.
 use Rattle.std.proofs.Common.{ap, subst}
+use Rattle.std.proofs.lemmas.List.{append_assoc, append-nil}
 use Rattle.std.specs.Prelude.{◌≡◌, refl, List, [], ◌∷◌, ◌++◌, Option, Some, None}
 pub use denote.RawPtr.{Ptr}
 use denote.RawPtr.{coded_ptr}
@@ -7,6 +8,7 @@ use Rattle.std.specs.Coded.{Coded, code_by, coded×, coded_list, coded_option}
 use Rattle.range_tree.specs.declared.nodes.memory.Node.{Node}
 use Rattle.range_tree.specs.contracts.nodes.memory.Node.{the_row}
 
+-- no node, or a node with its place and the trees on its left and its right
 pub data Tree : Type 0 where
   Leaf : Tree
   Fork : Ptr → Tree → Node → Tree → Tree
@@ -24,26 +26,27 @@ built (Some x ∷ xs) [] = built xs []
 built (Some x ∷ xs) (r ∷ []) = built xs []
 built (Some x ∷ xs) (r ∷ l ∷ ts) = built xs (Fork x.0 l x.1 r ∷ ts)
 
+-- the tree that was built last
 abbrev pub first_tree : List Tree → Tree
 first_tree [] = Leaf
 first_tree (t ∷ ts) = t
 
-append_again : (xs ys zs : List (Option (Ptr × Node))) → (xs ++ ys) ++ zs ≡ xs ++ (ys ++ zs)
-append_again [] ys zs = refl
-append_again (x ∷ xs) ys zs = λ i. x ∷ append_again xs ys zs i
-
+-- a tree's list builds the tree
 pub built_written : (t : Tree) (xs : List (Option (Ptr × Node))) (ts : List Tree) → built (written t ++ xs) ts ≡ built xs (t ∷ ts)
 built_written Leaf xs ts = refl
 built_written (Fork p l n r) xs ts =
-    rw (append_again (written l) (written r ++ Some (p, n) ∷ []) xs, append_again (written r) (Some (p, n) ∷ []) xs, built_written l (written r ++ Some (p, n) ∷ xs) ts, built_written r (Some (p, n) ∷ xs) (l ∷ ts)) refl
+    rw (
+      append_assoc (written l) (written r ++ Some (p, n) ∷ []) xs,
+      append_assoc (written r) (Some (p, n) ∷ []) xs,
+      built_written l (written r ++ Some (p, n) ∷ xs) ts,
+      built_written r (Some (p, n) ∷ xs) (l ∷ ts),
+    ) refl
 
-pub append_none : (xs : List (Option (Ptr × Node))) → xs ++ [] ≡ xs
-append_none [] = refl
-append_none (x ∷ xs) = λ i. x ∷ append_none xs i
-
+-- so the list gives the tree back
 pub read_back : (t : Tree) → first_tree (built (written t) []) ≡ t
-read_back t = ap first_tree (subst (λ (xs : List (Option (Ptr × Node))). built xs [] ≡ t ∷ []) (append_none (written t)) (built_written t [] []))
+read_back t = ap first_tree (subst (λ (xs : List (Option (Ptr × Node))). built xs [] ≡ t ∷ []) (append-nil (written t)) (built_written t [] []))
 
+-- a tree is kept as its list
 abbrev pub tree_coded : Coded Tree
 tree_coded = code_by (List (Option (Ptr × Node))) (coded_list (coded_option (coded× coded_ptr the_row.coded))) written (λ xs. first_tree (built xs [])) read_back
 
@@ -52,14 +55,17 @@ abbrev pub root_of : Tree → Option Ptr
 root_of Leaf = None
 root_of (Fork p l n r) = Some p
 
+-- what stands in the topmost node
 abbrev pub node_of : Tree → Option Node
 node_of Leaf = None
 node_of (Fork p l n r) = Some n
 
+-- what lies on the left of the topmost node
 abbrev pub left_of : Tree → Tree
 left_of Leaf = Leaf
 left_of (Fork p l n r) = l
 
+-- what lies on the right of the topmost node
 abbrev pub right_of : Tree → Tree
 right_of Leaf = Leaf
 right_of (Fork p l n r) = r
