@@ -19,7 +19,7 @@ use Rattle.range_tree.specs.Avl.{owned, listed}
 use Rattle.range_tree.specs.Ranges.{Owned, owned_lt, AllAfter, IsInOrder, owners_at, IsFew}
 use Rattle.range_tree.proofs.Bounds.{fib_height, visits_bound}
 use Rattle.range_tree.proofs.Inserted.{sorted_front, sorted_back}
-use Rattle.range_tree.proofs.Laws.{total, lt_cotrans}
+use Rattle.range_tree.proofs.Orders.{total, lt_cotrans}
 
 -- the comparison with an interval's table, index, low end and high end
 between : (a b c d : Ordering) → (not (is_lt (ordering_then (ordering_then a b) c)) && is_lt (ordering_then (ordering_then a b) d)) ≡ ((is_eq a && is_eq b) && (is_ge c && is_lt d))

@@ -6,7 +6,7 @@ use Rattle.std.proofs.lemmas.Bool.{cases_lt}
 use mathlib.Core.Logic.{inl, inr}
 use Rattle.range_tree.specs.Avl.{SettlesAt}
 use Rattle.range_tree.specs.Ranges.{Owned, owned_lt, AllAfter, IsInOrder, inserted}
-use Rattle.range_tree.proofs.Laws.{owned_trans}
+use Rattle.range_tree.proofs.Orders.{owned_trans}
 
 after_middle : (x : Owned) (l : List Owned) (k : Owned) (r : List Owned) → AllAfter x (l ++ k ∷ r) → owned_lt x k ≡ true
 after_middle x [] k r a = a.0

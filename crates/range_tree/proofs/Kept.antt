@@ -9,7 +9,7 @@ use Rattle.range_tree.specs.Tree.{Tree, Leaf, Fork}
 use Rattle.range_tree.specs.Shape.{height}
 use Rattle.range_tree.specs.Avl.{owned, listed}
 use Rattle.range_tree.specs.Ranges.{Owned, owned_cmp, owned_lt, AllAfter, IsInOrder, inserted, IsAbsent}
-use Rattle.range_tree.proofs.Laws.{owned_total, owned_trans}
+use Rattle.range_tree.proofs.Orders.{owned_total, owned_trans}
 
 both_equal : (o q : Ordering) → ordering_then o q ≡ Equal → (o ≡ Equal) × (q ≡ Equal)
 both_equal Less q e = cc

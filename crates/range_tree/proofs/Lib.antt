@@ -1,4 +1,4 @@
-pub mod Laws
+pub mod Orders
 pub mod Bounds
 pub mod Crosses
 pub mod Found

@@ -6,7 +6,7 @@ use Rattle.std.specs.Ordering.{is_lt, is_eq, ordering_reverse}
 use Rattle.std.specs.declared.cmp.Ordering.{Ordering}
 use Rattle.std.proofs.lemmas.List.Elements.{Contains-append_right}
 use Rattle.range_tree.specs.Ranges.{Owned, owned_cmp, owned_lt, AllAfter, IsInOrder, IsAbsent, removed, is_there}
-use Rattle.range_tree.proofs.Laws.{is_less, owned_total, owned_trans}
+use Rattle.range_tree.proofs.Orders.{is_less, owned_total, owned_trans}
 use Rattle.range_tree.proofs.Kept.{owned_same}
 
 abbrev NoneSame : Owned → List Owned → Type 0

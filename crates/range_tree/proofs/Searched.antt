@@ -3,7 +3,7 @@ use Rattle.std.proofs.Common.{◌≡◌, suc, ◌+◌, Bool, true, false, not, �
 use Rattle.std.proofs.lemmas.List.{append-nil}
 use Rattle.cv_keys.specs.declared.interval.Interval.{Interval}
 use Rattle.range_tree.specs.Points.{Point, point_lt, low, end}
-use Rattle.range_tree.proofs.Laws.{lt_trans, lt_cotrans}
+use Rattle.range_tree.proofs.Orders.{lt_trans, lt_cotrans}
 use Rattle.range_tree.specs.declared.nodes.memory.Node.{Node}
 use Rattle.range_tree.specs.Tree.{Tree, Leaf, Fork, node_of, left_of, right_of}
 use Rattle.range_tree.specs.Best.{ends_before, further_of, best_of, LeadsTo, IsLinked}

@@ -1,5 +1,5 @@
 -- The list that a tree is: intervals with their owners, in order.
-use Rattle.std.specs.Prelude.{◌≡◌, ◌≢◌, ℕ, zero, suc, ◌+◌, ◌*◌, ◌≤◌, Bool, true, false, ◌||◌, cond, List, [], ◌∷◌, map, filter}
+use Rattle.std.specs.Prelude.{◌≡◌, ◌≢◌, ℕ, zero, suc, ◌+◌, ◌*◌, ◌≤◌, Bool, true, false, ◌||◌, cond, List, [], ◌∷◌, ◌++◌, map, filter}
 use Rattle.std.specs.Cmp.Lexicographic.{slice_cmp}
 use Rattle.std.specs.Ordering.{nat_cmp, is_lt, is_eq, ordering_then}
 use Rattle.std.specs.declared.cmp.Ordering.{Ordering}
@@ -52,6 +52,10 @@ is_there x (y ∷ ys) = is_eq (owned_cmp x y) || is_there x ys
 -- the owners of the intervals that contain the key, in order
 abbrev pub owners_at : ℕ → ℕ → List ℕ → List Owned → List ℕ
 owners_at table index key xs = map (λ x. x.1) (filter (λ x. contains x.0 table index key) xs)
+
+-- a visitor that had seen a list of owners has seen these behind it
+abbrev pub Takes : {V : Type 0} → (List ℕ → V → Type 0) → V → List ℕ → V → Type 0
+Takes has_seen old owners new = (seen : List ℕ) → has_seen seen old → has_seen (seen ++ owners) new
 
 -- the Fibonacci numbers, from 1 and 1 on
 abbrev pub fib : ℕ → ℕ

@@ -3,6 +3,7 @@ use Rattle.std.specs.Prelude.{◌≡◌, ℕ, Bool, true, false, not, List, map,
 use Rattle.range_tree.specs.Points.{Point, point_lt, low, end}
 use Rattle.cv_keys.specs.declared.interval.Interval.{Interval}
 use Rattle.range_tree.specs.declared.nodes.memory.Node.{Node}
+use Rattle.range_tree.specs.Shape.{hits, visits}
 use Rattle.range_tree.specs.Tree.{Tree, Leaf, Fork}
 
 -- the interval of the topmost node
@@ -21,6 +22,14 @@ reaches_past x n = point_lt x (end n.interval)
 -- the owners of nodes, in order
 abbrev pub owners : List Node → List ℕ
 owners = map (λ n. n.owner)
+
+-- the owners that a search for the point hits, in order
+abbrev pub found_owners : Point → Tree → List ℕ
+found_owners x t = owners (hits (starts_at x) (reaches_past x) t)
+
+-- how many nodes it is shown
+abbrev pub shown_nodes : Point → Tree → ℕ
+shown_nodes x t = visits (starts_at x) (reaches_past x) t
 
 module _ (x : Point) where
   -- each node begins at the point or before it, or each after it

@@ -70,7 +70,9 @@ fn rotate_left(node: Box<Node>, l: Subtree, r: Subtree) -> Subtree
 fn take_first(tree: Subtree) -> Option<(Box<Node>, Subtree)>
     requires balanced { IsBalanced tree }
     requires fits { height tree + 1 < 2 ^ 64 }
-    ensures { MatchOption result (tree ≡ Leaf) (λ s. (listed tree ≡ owned s.0.value ∷ listed s.1) × IsBalanced s.1 × (height s.1 ≤ height tree) × (height tree ≤ height s.1 + 1)) }
+    ensures { MatchOption result (tree ≡ Leaf) (λ s.
+        (listed tree ≡ owned s.0.value ∷ listed s.1)
+        × IsBalanced s.1 × (height s.1 ≤ height tree) × (height tree ≤ height s.1 + 1)) }
 {
     let (l, top, r) = tree.split()?;
     match take_first(l) {
@@ -86,7 +88,8 @@ pub fn merge(l: Subtree, r: Subtree) -> Subtree
     requires fits { max (height l) (height r) + 1 < 2 ^ 64 }
     ensures listed { listed result ≡ listed l ++ listed r }
     ensures balanced { IsBalanced result }
-    ensures height { (max (height l) (height r) ≤ height result) × (height result ≤ max (height l) (height r) + 1) }
+    ensures height { (max (height l) (height r) ≤ height result)
+        × (height result ≤ max (height l) (height r) + 1) }
 {
     match take_first(r) {
         None => l,

@@ -10,6 +10,7 @@
 
 mod balance;
 mod change;
+mod laws;
 mod nodes;
 mod order;
 mod search;
@@ -18,6 +19,7 @@ mod tests;
 mod tree;
 mod visit;
 
+pub use laws::nodes_and_trees_cross;
 pub use nodes::Steps;
-pub use tree::{RangeNode, RangeTree, nodes_and_trees_cross};
+pub use tree::{RangeNode, RangeTree};
 pub use visit::Visit;

@@ -1,8 +1,8 @@
 //! The search for the intervals that contain a key.
-ghost use Rattle.std.specs.Prelude.{◌≡◌, ℕ, ◌+◌, List, ◌++◌};
+ghost use Rattle.std.specs.Prelude.{◌≡◌, ◌+◌};
 ghost use Rattle.range_tree.specs.Best.{IsLinked, LeadsTo};
-ghost use Rattle.range_tree.specs.Shape.{hits, visits};
-ghost use Rattle.range_tree.specs.Search.{starts_at, reaches_past, owners, IsCutAt};
+ghost use Rattle.range_tree.specs.Ranges.{Takes};
+ghost use Rattle.range_tree.specs.Search.{found_owners, shown_nodes, IsCutAt};
 
 use crate::nodes::{Link, Nodes, Steps, lend};
 use crate::order::{begins_after, ends_after};
@@ -23,8 +23,8 @@ pub fn search<V: Visit, L: Ledger>(
     requires root { LeadsTo at nodes.now.tree }
     requires linked { IsLinked nodes.now.tree }
     requires cut { IsCutAt (table, index, key.now) nodes.now.tree }
-    ensures hits { (seen : List ℕ) → V.has_seen seen visit.old → V.has_seen (seen ++ owners (hits (starts_at (table, index, key.now)) (reaches_past (table, index, key.now)) nodes.now.tree)) visit.new }
-    ensures steps { steps.new ≡ steps.old + visits (starts_at (table, index, key.now)) (reaches_past (table, index, key.now)) nodes.now.tree }
+    ensures hits { Takes V.has_seen visit.old (found_owners (table, index, key.now) nodes.now.tree) visit.new }
+    ensures steps { steps.new ≡ steps.old + shown_nodes (table, index, key.now) nodes.now.tree }
 {
     let Some(at) = at else {
         return;

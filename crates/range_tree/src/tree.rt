@@ -1,6 +1,6 @@
 //! The tree, seen as the list of its intervals with their owners.
-ghost use Rattle.std.specs.Prelude.{◌≡◌, ℕ, ◌-◌, ◌^◌, ◌<◌, ◌≤◌, List, [], ◌++◌, length, IfOk, IfErr, MatchOption, Contains};
-ghost use Rattle.range_tree.specs.Ranges.{inserted, removed, IsAbsent, IsInOrder, owners_at, IsFew};
+ghost use Rattle.std.specs.Prelude.{◌≡◌, ◌-◌, ◌^◌, ◌<◌, ◌≤◌, [], length, IfOk, IfErr, MatchOption, Contains};
+ghost use Rattle.range_tree.specs.Ranges.{inserted, removed, IsAbsent, IsInOrder, owners_at, Takes, IsFew};
 
 use crate::change::{free_all, insert, remove};
 use crate::nodes::{Node, Steps, Subtree};
@@ -56,7 +56,8 @@ impl Model for RangeTree {
 
     ghost view = { λ t. listed t.tree };
 
-    ghost invariant = { λ t. IsBalanced t.tree × IsInOrder (listed t.tree) × (t.len ≡ length (listed t.tree)) × (t.len ≤ 2 ^ 62) };
+    ghost invariant = { λ t. IsBalanced t.tree × IsInOrder (listed t.tree)
+        × (t.len ≡ length (listed t.tree)) × (t.len ≤ 2 ^ 62) };
 }
 
 impl RangeTree {
@@ -96,7 +97,9 @@ impl RangeTree {
     pub fn remove(&mut self, interval: &Interval, owner: u64) -> Option<RangeNode>
         ensures list { self.new ≡ removed (interval.now, owner) self.old }
         ensures gone { IsAbsent (interval.now, owner) self.new }
-        ensures node { MatchOption result (IsAbsent (interval.now, owner) self.old) (λ n. (n ≡ (interval.now, owner)) × Contains self.old n) }
+        ensures node { MatchOption result
+            (IsAbsent (interval.now, owner) self.old)
+            (λ n. (n ≡ (interval.now, owner)) × Contains self.old n) }
     {
         let tree = mem::replace(&mut self.tree, Subtree::empty());
         let (tree, out) = remove(tree, interval, owner);
@@ -121,16 +124,17 @@ impl RangeTree {
         visit: &mut V,
         steps: &mut Steps<L>,
     )
-        ensures hits { (seen : List ℕ) → V.has_seen seen visit.old → V.has_seen (seen ++ owners_at table index key.now self.now) visit.new }
+        ensures hits { Takes V.has_seen visit.old (owners_at table index key.now self.now) visit.new }
         ensures rises { steps.old ≤ steps.new }
-        ensures bound { IsFew (length self.now) (length (owners_at table index key.now self.now)) (steps.new - steps.old) }
+        ensures bound { let k = length (owners_at table index key.now self.now) in
+            IsFew (length self.now) k (steps.new - steps.old) }
     {
         self.tree.search(table, index, key, visit, steps);
     }
 
     /// `stab` where nobody asks for the steps.
     pub fn hit_all<V: Visit>(&self, table: u32, index: u32, key: &Key, visit: &mut V)
-        ensures { (seen : List ℕ) → V.has_seen seen visit.old → V.has_seen (seen ++ owners_at table index key.now self.now) visit.new }
+        ensures { Takes V.has_seen visit.old (owners_at table index key.now self.now) visit.new }
     {
         stab_on::<V, Brand>(self, table, index, key, visit, Blank::new(1));
     }
@@ -148,7 +152,7 @@ fn stab_on<V: Visit, L: Ledger>(
     requires name { blank.name ≡ L.name }
     requires parts { blank.parts ≡ L.parts }
     requires some { 0 < blank.parts }
-    ensures { (seen : List ℕ) → V.has_seen seen visit.old → V.has_seen (seen ++ owners_at table index key.now tree.now) visit.new }
+    ensures { Takes V.has_seen visit.old (owners_at table index key.now tree.now) visit.new }
 {
     let mut steps = Steps::<L>::new(blank);
     tree.stab(table, index, key, visit, &mut steps);
@@ -159,12 +163,4 @@ impl Drop for RangeTree {
         let RangeTree { tree, len: _ } = self;
         free_all(tree);
     }
-}
-
-fn crosses<T: Send>(_value: &T) {}
-
-/// A node and a tree may go to another thread: the check of this function shows it.
-pub fn nodes_and_trees_cross(node: &RangeNode, tree: &RangeTree) {
-    crosses(node);
-    crosses(tree);
 }

@@ -1,4 +1,5 @@
-ghost use Rattle.std.specs.Prelude.{ℕ, List, [], ◌∷◌, ◌++◌};
+ghost use Rattle.std.specs.Prelude.{ℕ, List, [], ◌∷◌};
+ghost use Rattle.range_tree.specs.Ranges.{Takes};
 
 /// Takes the owners that a search hits, one after the other.
 ///
@@ -9,5 +10,5 @@ pub trait Visit {
 
     /// Takes one owner.
     fn hit(&mut self, owner: u64)
-        ensures { (seen : List ℕ) → Self.has_seen seen self.old → Self.has_seen (seen ++ owner ∷ []) self.new };
+        ensures { Takes Self.has_seen self.old (owner ∷ []) self.new };
 }

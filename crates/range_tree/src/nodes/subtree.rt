@@ -1,11 +1,12 @@
 //! A tree by value: its nodes, and where the topmost one lies.
-ghost use Rattle.std.specs.Prelude.{◌≡◌, ℕ, suc, List, ◌+◌, ◌^◌, ◌<◌, ◌≤◌, max, ◌++◌, ◌∷◌, Some, MatchOption, IfSome};
+ghost use Rattle.std.specs.Prelude.{◌≡◌, suc, ◌+◌, ◌^◌, ◌<◌, ◌≤◌, max, ◌++◌, ◌∷◌, Some, MatchOption, IfSome};
 ghost use denote.RawPtr.{Ptr};
 ghost use Rattle.range_tree.specs.declared.nodes.memory.Node.{Node};
 ghost use Rattle.range_tree.specs.Tree.{Leaf, Fork, root_of};
 ghost use Rattle.range_tree.specs.Best.{best_of, LeadsToBest};
-ghost use Rattle.range_tree.specs.Search.{interval_of, starts_at, reaches_past, owners, IsCutAt};
-ghost use Rattle.range_tree.specs.Shape.{height, IsBalanced, hits, visits};
+ghost use Rattle.range_tree.specs.Ranges.{Takes};
+ghost use Rattle.range_tree.specs.Search.{interval_of, found_owners, shown_nodes, IsCutAt};
+ghost use Rattle.range_tree.specs.Shape.{height, IsBalanced};
 ghost use Rattle.range_tree.specs.Avl.{owned, listed, IsOver, SplitsTo};
 
 use crate::nodes::memory::{Link, Node, Nodes, attach, detach, no_nodes};
@@ -69,7 +70,9 @@ impl Subtree {
 
     /// Where the node of the greatest end lies, and its interval.
     fn farthest(&self) -> Option<(Link, &Interval)>
-        ensures { MatchOption result (self.now ≡ Leaf) (λ r. (root_of (best_of self.now) ≡ Some r.0.ptr) × (interval_of (best_of self.now) ≡ Some r.1.now)) }
+        ensures { MatchOption result (self.now ≡ Leaf) (λ r.
+            (root_of (best_of self.now) ≡ Some r.0.ptr)
+            × (interval_of (best_of self.now) ≡ Some r.1.now)) }
     {
         let at = self.root?;
         let node = self.nodes.get(at);
@@ -89,8 +92,8 @@ impl Subtree {
         steps: &mut Steps<L>,
     )
         requires { IsCutAt (table, index, key.now) self.now }
-        ensures hits { (seen : List ℕ) → V.has_seen seen visit.old → V.has_seen (seen ++ owners (hits (starts_at (table, index, key.now)) (reaches_past (table, index, key.now)) self.now)) visit.new }
-        ensures steps { steps.new ≡ steps.old + visits (starts_at (table, index, key.now)) (reaches_past (table, index, key.now)) self.now }
+        ensures hits { Takes V.has_seen visit.old (found_owners (table, index, key.now) self.now) visit.new }
+        ensures steps { steps.new ≡ steps.old + shown_nodes (table, index, key.now) self.now }
     {
         search(&self.nodes, self.root, table, index, key, visit, steps);
     }
@@ -98,7 +101,12 @@ impl Subtree {
     /// Takes the topmost node off: the tree on its left, the node, and the tree on its right.
     pub fn split(self) -> Option<(Subtree, Box<Node>, Subtree)>
         ensures leaf { SplitsTo self result }
-        ensures parts { IfSome result (λ s. (listed self ≡ listed s.0 ++ owned s.1.value ∷ listed s.2) × (height self ≡ suc (max (height s.0) (height s.2))) × (IsBalanced self → IsBalanced s.0 × IsBalanced s.2 × (height s.0 ≤ height s.2 + 1) × (height s.2 ≤ height s.0 + 1))) }
+        ensures parts { IfSome result (λ s.
+            (listed self ≡ listed s.0 ++ owned s.1.value ∷ listed s.2)
+            × (height self ≡ suc (max (height s.0) (height s.2)))
+            × (IsBalanced self →
+            IsBalanced s.0 × IsBalanced s.2
+            × (height s.0 ≤ height s.2 + 1) × (height s.2 ≤ height s.0 + 1))) }
     {
         let Subtree { root, nodes } = self;
         let Some(at) = root else {
@@ -148,7 +156,8 @@ pub fn join(mut node: Box<Node>, l: Subtree, r: Subtree) -> Subtree
     ensures over { IsOver l (owned node.value) r result }
     ensures listed { listed result ≡ listed l ++ owned node.value ∷ listed r }
     ensures height { height result ≡ suc (max (height l) (height r)) }
-    ensures balanced { IsBalanced l → IsBalanced r → height l ≤ height r + 1 → height r ≤ height l + 1 → IsBalanced result }
+    ensures balanced { IsBalanced l → IsBalanced r →
+        height l ≤ height r + 1 → height r ≤ height l + 1 → IsBalanced result }
 {
     node.height = l.height().max(r.height()) + 1;
     node.best = greatest(&l, &node.interval, &r);
