@@ -4,6 +4,7 @@ pub mod Crosses
 pub mod Found
 pub mod Inserted
 pub mod Kept
+pub mod Members
 pub mod Removed
 pub mod Searched
 pub mod Sharing

@@ -108,7 +108,7 @@ absent x (y ∷ ys) e =
     let n = or_none (is_eq (owned_cmp x y)) (is_there x ys) e in
     ((λ same. true≢false (sym (itself x) ∙ ap (λ z. is_eq (owned_cmp x z)) same ∙ n.0)), absent x ys n.1)
 
-equal_same : (x y : Owned) (o : Ordering) → owned_cmp x y ≡ o → is_eq o ≡ true → x ≡ y
+pub equal_same : (x y : Owned) (o : Ordering) → owned_cmp x y ≡ o → is_eq o ≡ true → x ≡ y
 equal_same x y Less e f = cc
 equal_same x y Equal e f = owned_same x y e
 equal_same x y Greater e f = cc
