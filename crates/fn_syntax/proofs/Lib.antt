@@ -1,6 +1,9 @@
 pub mod Answering
+pub mod Chains
 pub mod Descent
+pub mod Items
 pub mod Lexing
+pub mod Nexts
 pub mod Numbers
 pub mod Places
 pub mod Reading

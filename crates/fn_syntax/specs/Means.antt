@@ -54,15 +54,15 @@ abbrev pub limit_view : Option Expr → Limit
 limit_view None = plain.all_rows
 limit_view (Some e) = plain.up_to (expr_view e)
 
--- a field and its value
-abbrev pub IsEntry : List ℕ → Named × Expr → Parse → Type 0
-IsEntry s e (pair n (pair colon a)) = (e.0 ≡ tree.named_of s (tree.token_of n)) × (expr_view e.1 ≡ tree.expression_of s a)
-IsEntry s e a = ⊥
+-- a parse of a field and its value
+abbrev pub IsEntryOf : List ℕ → Named × plain.Expr → Parse → Type 0
+IsEntryOf s e (pair n (pair colon a)) = (e.0 ≡ tree.named_of s (tree.token_of n)) × (e.1 ≡ tree.expression_of s a)
+IsEntryOf s e a = ⊥
 
--- a field compared with a value
-abbrev pub bound_of : List ℕ → Parse → BoundView
-bound_of s (pair n (pair o a)) = (tree.named_of s (tree.token_of n), tree.compare_of (tree.token_of o).terminal, tree.expression_of s a)
-bound_of s a = (tree.named_of s (tree.token_of a), tree.compare_of (tree.token_of a).terminal, tree.missing)
+-- a parse of a field compared with a value
+abbrev pub IsBoundOf : List ℕ → BoundView → Parse → Type 0
+IsBoundOf s b (pair n (pair o a)) = b ≡ (tree.named_of s (tree.token_of n), tree.compare_of (tree.token_of o).terminal, tree.expression_of s a)
+IsBoundOf s b a = ⊥
 
 -- the bounds of a scan
 abbrev pub bounds : Prod

@@ -8,7 +8,7 @@ ghost use Rattle.fn_tree.specs.Rules as rules;
 ghost use Rattle.fn_tree.specs.SyntaxViews.{expr_view, form_view};
 ghost use Rattle.fn_tree.specs.Terminals.{is_sign};
 ghost use Rattle.fn_syntax.specs.Descents.{IsDescent};
-ghost use Rattle.fn_syntax.specs.Levels.{rule_of, operand_of, tree_of, operand_tree_of};
+ghost use Rattle.fn_syntax.specs.Levels.{rule_of, operand_of, operators_of, tree_of, operand_tree_of};
 ghost use Rattle.fn_syntax.specs.Means.{IsClosed, IsClosing};
 
 use crate::parser::class::{Class, operator_of, sign_of};
@@ -29,7 +29,9 @@ pub(crate) enum Level {
 }
 
 impl Level {
-    fn operators(self) -> Class {
+    fn operators(self) -> Class
+        ensures { result ≡ operators_of self }
+    {
         match self {
             Level::Or => Class::Only(Terminal::Mark(Mark::OrOr)),
             Level::And => Class::Only(Terminal::Mark(Mark::AndAnd)),

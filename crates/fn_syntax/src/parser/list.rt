@@ -117,7 +117,7 @@ fn entry_list<'t>(alloc: Global, text: &str, tokens: &'t [Lexeme]) -> Parsed<'t,
 // A field and its value.
 #[cycle(expressions)]
 fn entry<'t>(alloc: Global, text: &str, tokens: &'t [Lexeme]) -> Parsed<'t, (Named, Expr)>
-    ensures is { IsDescent (rule rules.entry) (λ e a. means.IsEntry text.now e a) tokens.now result }
+    ensures is { IsDescent (rule rules.entry) (λ e a. means.IsEntryOf text.now (e.0, expr_view e.1) a) tokens.now result }
     ensures shorter { IfOk result (λ x. length x.1.now < length tokens.now) }
 {
     let (name, rest) = expect_named(alloc, text, tokens, Class::FieldName)?;
