@@ -14,6 +14,7 @@ use Rattle.fn_tree.proofs.Language.{clear}
 use Rattle.fn_syntax.specs.Classes.{has}
 use Rattle.fn_syntax.specs.Descents.{Found}
 use Rattle.fn_syntax.specs.Levels.{rule_of, operand_of, operators_of, tree_of, operand_tree_of, goes_on}
+use Rattle.fn_syntax.specs.declared.parser.class.Class.{Class}
 use Rattle.fn_syntax.specs.declared.parser.expression.Level.{Level}
 use Rattle.fn_syntax.specs.declared.parser.expression.Level.TheVariants.{Or, And, Sum, Term}
 use Rattle.fn_syntax.proofs.Nexts.{Begins}
@@ -180,3 +181,17 @@ suffix_misses {i = i} {ts = ts} {rest = rest} {r = r} g h b y = go g.left g.coun
     go : (n : ℕ) → n + i ≡ 16 → Makes (rule postfix) g.f ts (turns (up_to n) (rule suffix)) rest → Fails grammar (rule postfix) ts r
     go zero u m = absurd (omega arith)
     go (suc n) u m = misses (makes_on m (makes_turn one_less b.reads b.on)) (suffix_first n) y
+
+-- ---- the same, for a class that is known to be that of the operators
+
+pub chain_first_misses : (k : Level) {ts r : List Lexeme} → Fails grammar (rule (operand_of k)) ts r → Fails grammar (rule (rule_of k)) ts r
+chain_first_misses k f = misses (makes_chain k) (operand_first k 16) f
+
+pub chain_goes_by : {k : Level} {s : List ℕ} {e x d : Expr} {i : ℕ} {c : Lexeme} {ts rest after r : List Lexeme} (o : Class) → o ≡ operators_of k → Chained k s e i ts rest → i < 16 → Finds grammar (token (has o)) (leaf c) rest after → length after < length rest → Found (rule (operand_of k)) (λ a. x ≡ operand_tree_of k s a) after r → length r < length after → d ≡ joined e c x → Chained k s d (i + 1) ts r
+chain_goes_by {c = c} {rest = rest} {after = after} o h g t f j y z q = chain_goes g t (subst (λ (x : Class). Finds grammar (token (has x)) (leaf c) rest after) h f) j y z q
+
+pub chain_misses_by : {k : Level} {s : List ℕ} {e : Expr} {i : ℕ} {c : Lexeme} {ts rest after r : List Lexeme} (o : Class) → o ≡ operators_of k → Chained k s e i ts rest → i < 16 → Finds grammar (token (has o)) (leaf c) rest after → length after < length rest → Fails grammar (rule (operand_of k)) after r → Fails grammar (rule (rule_of k)) ts r
+chain_misses_by {c = c} {rest = rest} {after = after} o h g t f j y = chain_misses g t (subst (λ (x : Class). Finds grammar (token (has x)) (leaf c) rest after) h f) j y
+
+pub chain_stops_by : {k : Level} {s : List ℕ} {e : Expr} {i : ℕ} {ts rest : List Lexeme} (o : Class) → o ≡ operators_of k → Chained k s e i ts rest → Fails grammar (token (has o)) rest rest → Found (rule (rule_of k)) (λ a. e ≡ tree_of k s a) ts rest
+chain_stops_by {rest = rest} o h g f = chain_stops g (subst (λ (x : Class). Fails grammar (token (has x)) rest rest) h f)

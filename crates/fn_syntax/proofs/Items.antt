@@ -9,7 +9,9 @@ use Rattle.fn_tree.specs.ParseTrees as tree
 use Rattle.fn_tree.specs.Rules.{expression, entry, bound}
 use Rattle.fn_tree.specs.SyntaxTree as plain
 use Rattle.fn_tree.specs.SyntaxTree.{Exprs, no_exprs, then_expr, Entries, no_entries, Bounds, no_bounds}
-use Rattle.fn_tree.specs.SyntaxViews.{exprs_of, entries_of, bounds_of, BoundView}
+use Rattle.fn_tree.specs.SyntaxViews.{expr_view, bound_view, exprs_of, entries_of, bounds_of, BoundView}
+use Rattle.fn_tree.specs.declared.syntax.BoundExpr.{BoundExpr}
+use Rattle.fn_tree.specs.declared.syntax.Expr.{Expr}
 use Rattle.fn_tree.specs.declared.lexeme.Lexeme.{Lexeme}
 use Rattle.fn_tree.specs.declared.lexeme.Mark.TheVariants.{Comma}
 use Rattle.fn_tree.specs.declared.syntax.Named.{Named}
@@ -194,3 +196,45 @@ bounds_miss g o h x = item_missed (clear _ _ refl refl) (clear _ _ refl refl) g.
 
 pub bounds_end : {s : List ℕ} {bs : List BoundView} {ts rest : List Lexeme} → Bounds_so_far s bs ts rest → Fails grammar (mark Comma) rest rest → Found bounds (λ a. bounds_of bs ≡ tree.bounds_of s a) ts rest
 bounds_end {bs = bs} g o = record { parse = g.f none; finds = items_end (clear _ _ refl refl) g.makes o; says = sym (g.means none ∙ bounds_with_none bs) }
+
+-- ---- the same, for lists as they are built
+
+map_push : {A B : Type 0} (f : A → B) (xs : List A) (x : A) → map f (xs ++ x ∷ []) ≡ map f xs ++ f x ∷ []
+map_push f [] x = refl
+map_push f (y ∷ xs) x = ap (λ r. f y ∷ r) (map_push f xs x)
+
+only : {A B : Type 0} (f : A → B) (xs ys : List A) (x : A) → xs ≡ [] → ys ≡ xs ++ x ∷ [] → map f ys ≡ f x ∷ []
+only f xs ys x e h = ap (map f) (h ∙ ap (λ r. r ++ x ∷ []) e)
+
+one_more : {A B : Type 0} (f : A → B) (xs ys : List A) (x : A) → ys ≡ xs ++ x ∷ [] → map f ys ≡ map f xs ++ f x ∷ []
+one_more f xs ys x h = ap (map f) h ∙ map_push f xs x
+
+pub exprs_begin_at : {s : List ℕ} (e : Expr) {ts m : List Lexeme} (xs ys : List Expr) → xs ≡ [] → ys ≡ xs ++ e ∷ [] → Found (rule expression) (λ a. expr_view e ≡ tree.expression_of s a) ts m → length m < length ts → Exprs_so_far s (map expr_view ys) ts m
+exprs_begin_at {s = s} e {ts = ts} {m = m} xs ys h k x z = subst (λ (v : List plain.Expr). Exprs_so_far s v ts m) (sym (only expr_view xs ys e h k)) (exprs_begin x z)
+
+pub exprs_go_at : {s : List ℕ} (e : Expr) {c : Lexeme} {ts rest after r : List Lexeme} (xs ys : List Expr) → ys ≡ xs ++ e ∷ [] → Exprs_so_far s (map expr_view xs) ts rest → Finds grammar (mark Comma) (leaf c) rest after → length after < length rest → Found (rule expression) (λ a. expr_view e ≡ tree.expression_of s a) after r → length r < length after → Exprs_so_far s (map expr_view ys) ts r
+exprs_go_at {s = s} e {ts = ts} {r = r} xs ys h g o z x w = subst (λ (v : List plain.Expr). Exprs_so_far s v ts r) (sym (one_more expr_view xs ys e h)) (exprs_go g o z x w)
+
+pub exprs_end_at : {s : List ℕ} {ts rest : List Lexeme} (xs ys : List Expr) → ys ≡ xs → Exprs_so_far s (map expr_view xs) ts rest → Fails grammar (mark Comma) rest rest → Found (commas (rule expression)) (λ a. exprs_of (map expr_view ys) ≡ tree.exprs_of s a) ts rest
+exprs_end_at {s = s} {ts = ts} {rest = rest} xs ys h g o = subst (λ (v : List Expr). Found (commas (rule expression)) (λ a. exprs_of (map expr_view v) ≡ tree.exprs_of s a) ts rest) (sym h) (exprs_end g o)
+
+abbrev pub pair_view : Named × Expr → Named × plain.Expr
+pair_view p = (p.0, expr_view p.1)
+
+pub entries_begin_at : {s : List ℕ} (e : Named × Expr) {ts m : List Lexeme} (xs ys : List (Named × Expr)) → xs ≡ [] → ys ≡ xs ++ e ∷ [] → Found (rule entry) (IsEntryOf s (pair_view e)) ts m → length m < length ts → Entries_so_far s (map pair_view ys) ts m
+entries_begin_at {s = s} e {ts = ts} {m = m} xs ys h k x z = subst (λ (v : List (Named × plain.Expr)). Entries_so_far s v ts m) (sym (only pair_view xs ys e h k)) (entries_begin x z)
+
+pub entries_go_at : {s : List ℕ} (e : Named × Expr) {c : Lexeme} {ts rest after r : List Lexeme} (xs ys : List (Named × Expr)) → ys ≡ xs ++ e ∷ [] → Entries_so_far s (map pair_view xs) ts rest → Finds grammar (mark Comma) (leaf c) rest after → length after < length rest → Found (rule entry) (IsEntryOf s (pair_view e)) after r → length r < length after → Entries_so_far s (map pair_view ys) ts r
+entries_go_at {s = s} e {ts = ts} {r = r} xs ys h g o z x w = subst (λ (v : List (Named × plain.Expr)). Entries_so_far s v ts r) (sym (one_more pair_view xs ys e h)) (entries_go g o z x w)
+
+pub entries_end_at : {s : List ℕ} {ts rest : List Lexeme} (xs ys : List (Named × Expr)) → ys ≡ xs → Entries_so_far s (map pair_view xs) ts rest → Fails grammar (mark Comma) rest rest → Found (commas (rule entry)) (λ a. entries_of (map pair_view ys) ≡ tree.entries_of s a) ts rest
+entries_end_at {s = s} {ts = ts} {rest = rest} xs ys h g o = subst (λ (v : List (Named × Expr)). Found (commas (rule entry)) (λ a. entries_of (map pair_view v) ≡ tree.entries_of s a) ts rest) (sym h) (entries_end g o)
+
+pub bounds_begin_at : {s : List ℕ} {ts : List Lexeme} (xs : List BoundExpr) → xs ≡ [] → Bounds_so_far s (map bound_view xs) ts ts
+bounds_begin_at {s = s} {ts = ts} xs h = subst (λ (v : List BoundExpr). Bounds_so_far s (map bound_view v) ts ts) (sym h) bounds_begin
+
+pub bounds_go_at : {s : List ℕ} (b : BoundExpr) {c : Lexeme} {ts rest after r : List Lexeme} (xs ys : List BoundExpr) → ys ≡ xs ++ b ∷ [] → Bounds_so_far s (map bound_view xs) ts rest → Finds grammar (mark Comma) (leaf c) rest after → length after < length rest → Found (rule bound) (IsBoundOf s (bound_view b)) after r → length r < length after → Bounds_so_far s (map bound_view ys) ts r
+bounds_go_at {s = s} b {ts = ts} {r = r} xs ys h g o z x w = subst (λ (v : List BoundView). Bounds_so_far s v ts r) (sym (one_more bound_view xs ys b h)) (bounds_go g o z x w)
+
+pub bounds_end_at : {s : List ℕ} {ts rest : List Lexeme} (xs ys : List BoundExpr) → ys ≡ xs → Bounds_so_far s (map bound_view xs) ts rest → Fails grammar (mark Comma) rest rest → Found bounds (λ a. bounds_of (map bound_view ys) ≡ tree.bounds_of s a) ts rest
+bounds_end_at {s = s} {ts = ts} {rest = rest} xs ys h g o = subst (λ (v : List BoundExpr). Found bounds (λ a. bounds_of (map bound_view v) ≡ tree.bounds_of s a) ts rest) (sym h) (bounds_end g o)

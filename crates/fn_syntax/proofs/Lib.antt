@@ -1,10 +1,14 @@
 pub mod Answering
 pub mod Chains
+pub mod Closings
 pub mod Descent
 pub mod Items
 pub mod Lexing
 pub mod Nexts
 pub mod Numbers
 pub mod Places
+pub mod Primaries
 pub mod Reading
+pub mod Says
+pub mod Signs
 pub mod Texts
