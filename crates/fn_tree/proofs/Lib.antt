@@ -1,3 +1,4 @@
+pub mod AsciiEnds
 pub mod Begins
 pub mod Follows
 pub mod FormViews
@@ -7,6 +8,8 @@ pub mod LanguageTables
 pub mod Legal
 pub mod OriginOfIds
 pub mod Places
+pub mod StringsSay
 pub mod Tables
+pub mod TokenTexts
 pub mod Tokens
 pub mod TokensRead

@@ -1,7 +1,8 @@
 -- Laws of the tokens of texts.
 use Rattle.std.specs.Prelude.{◌≡◌, ℕ, ◌+◌, ◌<◌, ◌≤◌, List, [], ◌∷◌, length, drop, All}
+use Rattle.std.specs.Str.{IsUtf8}
 use Rattle.fn_tree.specs.Lexemes.{begins, lexemes_of, integer_value, greatest_integer}
-use Rattle.fn_tree.specs.LexemeValues.{slice_of}
+use Rattle.fn_tree.specs.LexemeValues.{slice_of, text_of, string_value}
 use Rattle.fn_tree.specs.declared.begin.Begin.TheVariants.{Token}
 use Rattle.fn_tree.specs.declared.lexeme.Lexeme.{Lexeme}
 use Rattle.fn_tree.specs.declared.lexeme.Terminal.TheVariants.{Integer}
@@ -22,3 +23,8 @@ TokensAreRead = (text : List ℕ) → All (λ (x : Lexeme). begins (drop x.at te
 -- no integer of a text is greater than the greatest
 abbrev pub IntegersFit : Type 0
 IntegersFit = (text : List ℕ) → All (λ (x : Lexeme). x.terminal ≡ Integer → integer_value (slice_of text x) ≤ greatest_integer) (lexemes_of text).lexemes
+
+-- the bytes of a UTF-8 text's tokens are texts, and what its strings say are texts
+abbrev pub TokensAreTexts : Type 0
+TokensAreTexts = (text : List ℕ) → IsUtf8 text →
+    All (λ (x : Lexeme). (text_of (slice_of text x) ≡ slice_of text x) × (text_of (string_value (slice_of text x)) ≡ string_value (slice_of text x))) (lexemes_of text).lexemes

@@ -2,7 +2,7 @@
 ghost use Rattle.fn_tree.specs.HistoryLaws.{FrontsAreLegal, GoOnByRuns, IdsHavePairs};
 ghost use Rattle.fn_tree.specs.Examples.{IsWorkedExample};
 ghost use Rattle.fn_tree.specs.LexemeExamples.{IsWorkedTokens, IsWorkedNesting};
-ghost use Rattle.fn_tree.specs.LexemeLaws.{TokensStandApart, TokensAreRead, IntegersFit};
+ghost use Rattle.fn_tree.specs.LexemeLaws.{TokensStandApart, TokensAreRead, IntegersFit, TokensAreTexts};
 
 /// A front of a legal history is legal; a legal history goes on by the run of a call whose session
 /// and request it doesn't hold; and each document's id has the session and the request of an entry.
@@ -18,11 +18,13 @@ pub fn worked_histories()
 {}
 
 /// The tokens of a text stand apart in it, in order and none empty; each is what the text begins with
-/// at its place; and no integer among them is greater than the greatest of 64 bits.
+/// at its place; and no integer among them is greater than the greatest of 64 bits. Where the text is
+/// UTF-8, so are the bytes of each token and what its strings say.
 pub fn tokens_of_texts()
     ensures places { TokensStandApart }
     ensures read { TokensAreRead }
     ensures integers { IntegersFit }
+    ensures texts { TokensAreTexts }
 {}
 
 /// The tokens of some texts, worked out.

@@ -1,5 +1,6 @@
 use Rattle.fn_tree.proofs.Places.{tokens_stand_apart}
 use Rattle.fn_tree.proofs.TokensRead.{tokens_are_read, integers_fit}
+use Rattle.fn_tree.proofs.TokenTexts.{tokens_are_texts}
 use Rattle.fn_tree.proofs.laws.tokens_of_texts.Goals as goal
 
 pub returns-clause-places : goal.returns-clause-places
@@ -10,3 +11,6 @@ returns-clause-read c = tokens_are_read
 
 pub returns-clause-integers : goal.returns-clause-integers
 returns-clause-integers c = integers_fit
+
+pub returns-clause-texts : goal.returns-clause-texts
+returns-clause-texts c = tokens_are_texts
