@@ -1,0 +1,5 @@
+pub mod Fits
+pub mod Kept
+pub mod Parts
+pub mod Ranges
+pub mod Views
