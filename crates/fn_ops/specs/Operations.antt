@@ -1,5 +1,5 @@
 -- What each operation of the function language gives, or its fault. A case that isn't named has operands of the wrong kinds.
-use Rattle.std.specs.Prelude.{ℕ, suc, zero, ◌+◌, ◌^◌, ℤ, pos, negsuc, ◌+ℤ◌, ◌-ℤ◌, ◌*ℤ◌, neg_ℤ, int_div, int_rem, nat_lt, nat_le, Bool, true, false, not, ◌&&◌, if◌then◌else◌, List, [], ◌∷◌, ◌++◌, length, map, filter, slice_get, Option, Some, None, is_some, Result, Ok, Err}
+use Rattle.std.specs.Prelude.{ℕ, suc, zero, ◌+◌, ◌^◌, ℤ, pos, negsuc, ◌+ℤ◌, ◌-ℤ◌, ◌*ℤ◌, neg_ℤ, int_div, int_rem, nat_lt, nat_le, ◌==◌, Bool, true, false, not, ◌&&◌, if◌then◌else◌, List, [], ◌∷◌, ◌++◌, length, map, filter, slice_get, Option, Some, None, is_some, Result, Ok, Err}
 use Rattle.std.specs.BTreeMap.{is_at}
 use Rattle.std.specs.Fmt.{signed_decimal}
 use Rattle.std.specs.List.{list_any, slice_range}
@@ -23,17 +23,20 @@ made v =
     else (if nat_lt 8388608 (size_of v) then Err TooLarge
     else Ok v))
 
+-- the array of these items
 abbrev pub array_of : List Value → Given
 array_of vs = made (array (values_of vs))
 
--- an integer of 64 bits
+-- whether an integer has 64 bits
 abbrev pub fits : ℤ → Bool
 fits (pos n) = nat_lt n (2 ^ 63)
 fits (negsuc n) = nat_lt n (2 ^ 63)
 
+-- the result of arithmetic
 abbrev pub integer : ℤ → Given
 integer z = if fits z then Ok (int z) else Err Overflow
 
+-- the value, or the fault where there is none
 abbrev pub some_or : OpFault → Option Value → Given
 some_or e None = Err e
 some_or e (Some v) = Ok v
@@ -44,17 +47,20 @@ add (int a) (int b) = integer (a +ℤ b)
 add (string s) (string t) = made (string (s ++ t))
 add a b = Err Type_
 
+-- the difference of two integers
 abbrev pub subtract : Value → Value → Given
 subtract (int a) (int b) = integer (a -ℤ b)
 subtract a b = Err Type_
 
+-- the product of two integers
 abbrev pub multiply : Value → Value → Given
 multiply (int a) (int b) = integer (a *ℤ b)
 multiply a b = Err Type_
 
+-- the divisor that is refused
 abbrev pub is_zero : ℤ → Bool
-is_zero (pos n) = nat_le n 0
-is_zero (negsuc n) = nat_lt n 0
+is_zero (pos n) = n == 0
+is_zero (negsuc n) = false
 
 -- the quotient, towards zero
 abbrev pub divide : Value → Value → Given
@@ -68,6 +74,7 @@ remainder (int a) (int b) =
     else (if fits (int_div a b) then Ok (int (int_rem a b)) else Err Overflow)
 remainder a b = Err Type_
 
+-- the negative of an integer
 abbrev pub negate : Value → Given
 negate (int a) = integer (neg_ℤ a)
 negate a = Err Type_
@@ -81,6 +88,7 @@ opposite a = Err Type_
 abbrev pub field_of : List ℕ → Members → Option Value
 field_of n ms = lookup (is_at (text_cmp n)) (pairs_of ms)
 
+-- a field of an object by its name
 abbrev pub field : Value → List ℕ → Given
 field (object ms) n = some_or NoField (field_of n ms)
 field a n = Err Type_
@@ -96,6 +104,7 @@ item (object ms) (string n) = some_or NoField (field_of n ms)
 item (array vs) (int i) = some_or OutOfRange (item_at (list_of vs) i)
 item a b = Err Type_
 
+-- a number of parts, as an integer
 abbrev pub count : ℕ → Given
 count n = Ok (int (pos n))
 
@@ -107,6 +116,7 @@ length_of (array vs) = count (length (list_of vs))
 length_of (object ms) = count (length (pairs_of ms))
 length_of a = Err Type_
 
+-- whether an object has a name
 abbrev pub has : Value → Value → Given
 has (object ms) (string n) = Ok (boolean (is_some (field_of n ms)))
 has a b = Err Type_
@@ -127,6 +137,7 @@ set a b v = Err Type_
 abbrev pub without_field : List ℕ → Members → Members
 without_field n ms = members_of (filter (λ m. not (is_at (text_cmp n) m.0)) (pairs_of ms))
 
+-- the object without the name, whether it was there or not
 abbrev pub without : Value → Value → Given
 without (object ms) (string n) = made (object (without_field n ms))
 without a b = Err Type_
@@ -136,10 +147,12 @@ abbrev pub part : List Value → ℤ → ℤ → Option (List Value)
 part vs (pos i) (pos j) = if nat_le i j && nat_le j (length vs) then Some (slice_range vs i j) else None
 part vs i j = None
 
+-- the array of the items, or the fault where there are none
 abbrev pub array_or : OpFault → Option (List Value) → Given
 array_or e None = Err e
 array_or e (Some vs) = array_of vs
 
+-- a part of an array
 abbrev pub slice : Value → Value → Value → Given
 slice (array vs) (int i) (int j) = array_or OutOfRange (part (list_of vs) i j)
 slice a b c = Err Type_
@@ -154,23 +167,24 @@ abbrev pub count_of : ℤ → ℕ
 count_of (pos n) = n
 count_of (negsuc n) = 0
 
--- the integers from i on and before j, none where j is at most i
+-- the integers from i on and before j, none where j is at most i; too many aren't even listed
 abbrev pub range : Value → Value → Given
 range (int i) (int j) =
     let n = count_of (j -ℤ i) in
     elim (nat_lt 8192 n) [ true ↦ Err TooMany | false ↦ array_of (integers i n) ]
 range a b = Err Type_
 
--- the decimal text
+-- the decimal text of an integer
 abbrev pub show : Value → Given
 show (int i) = made (string (signed_decimal i))
 show a = Err Type_
 
--- the names, in order
+-- the names of an object, in order
 abbrev pub keys : Value → Given
 keys (object ms) = array_of (map (λ n. string n) (keys_of (pairs_of ms)))
 keys a = Err Type_
 
+-- the object of these members, unless a name is bad
 abbrev pub object_of : List (List ℕ × Value) → Given
 object_of ms =
     if list_any (is_bad_name false) (keys_of ms) then Err BadName

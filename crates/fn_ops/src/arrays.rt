@@ -1,59 +1,13 @@
-//! Operations on arrays.
+//! Operations that make arrays.
 ghost use Rattle.std.specs.Prelude.{◌≡◌, ◌≢◌, ◌++◌, ◌∷◌, [], IfOk, IfErr, Ok, Err, map, option_map, ◌-ℤ◌};
 ghost use Rattle.cv_values.specs.Trees.{tree};
 ghost use Rattle.cv_values.specs.Value.{array, values_of};
-ghost use Rattle.fn_ops.specs.Operations.{item, length_of, push, slice, range, array_of, item_at, integers, count_of, part};
+ghost use Rattle.fn_ops.specs.Operations.{push, slice, range, array_of, integers, count_of, part};
 
 use crate::fault::OpFault;
-use crate::limits::made;
-use crate::objects::field;
+use crate::limits::{MAX_ITEMS, made};
 use cv_values::{Memory, Val, Vals};
 use std::alloc::Global;
-
-const MAX_RANGE: u64 = 8192;
-
-/// `a[b]`: the field of an object at a string, or the item of an array at an integer, from 0. It
-/// is copied, and nothing else is.
-///
-/// Errors: `Type_` for other kinds, `NoField`, `OutOfRange`.
-#[tactic(auto, using(crate::proofs::Views::views))]
-pub fn item(alloc: Global, a: &Val, b: &Val) -> Result<Val, OpFault>
-    ensures ok { IfOk result (λ v. item (tree a.now) (tree b.now) ≡ Ok (tree v)) }
-    ensures err { IfErr result
-        (λ e. e ≢ OpFault.Memory → item (tree a.now) (tree b.now) ≡ Err e) }
-{
-    match (a, b) {
-        (Val::Obj(_), Val::Str(name)) => field(alloc, a, name),
-        (Val::Arr(items), Val::Int(i)) => match item_at(items, *i) {
-            Some(v) => Ok(v.copy(alloc)?),
-            None => Err(OpFault::OutOfRange),
-        },
-        _ => Err(OpFault::Type_),
-    }
-}
-
-fn item_at(items: &Vals, i: i64) -> Option<&Val>
-    ensures { option_map (λ v. tree v.now) result ≡ item_at items.now i }
-{
-    items.as_slice().get(usize::try_from(i).ok()?)
-}
-
-/// How many bytes a string or bytes have, items an array, names an object. It takes no memory.
-///
-/// Errors: `Type_` for another kind.
-#[tactic(auto, using(crate::proofs::Views::views))]
-pub fn length(_alloc: Global, a: &Val) -> Result<Val, OpFault>
-    ensures ok { IfOk result (λ v. length_of (tree a.now) ≡ Ok (tree v)) }
-    ensures err { IfErr result (λ e. length_of (tree a.now) ≡ Err e) }
-{
-    match a {
-        Val::Str(s) => Ok(Val::Int(s.as_str().len() as i64)),
-        Val::Bin(b) => Ok(Val::Int(b.as_slice().len() as i64)),
-        Val::Arr(items) => Ok(Val::Int(items.as_slice().len() as i64)),
-        Val::Obj(fields) => Ok(Val::Int(fields.as_map().len() as i64)),
-        _ => Err(OpFault::Type_),
-    }
-}
 
 /// The array `a` with `b` at its end. Both are copied whole.
 ///
@@ -72,12 +26,11 @@ pub fn push(alloc: Global, a: &Val, b: &Val) -> Result<Val, OpFault>
 /// What [`push`] gives of the array of these items. Nothing is copied: the items and the value go
 /// into the result, and are gone where there is none.
 #[tactic(auto, using(crate::proofs::Views::views))]
-pub fn push_onto(items: Vals, v: Val) -> Result<Val, OpFault>
+pub fn push_onto(mut items: Vals, v: Val) -> Result<Val, OpFault>
     ensures ok { IfOk result (λ w. push (array (values_of items)) (tree v) ≡ Ok (tree w)) }
     ensures err { IfErr result
         (λ e. e ≢ OpFault.Memory → push (array (values_of items)) (tree v) ≡ Err e) }
 {
-    let mut items = items;
     items.push(v)?;
     made(Val::Arr(items))
 }
@@ -132,7 +85,7 @@ pub fn range(alloc: Global, a: &Val, b: &Val) -> Result<Val, OpFault>
 {
     match (a, b) {
         (Val::Int(i), Val::Int(j)) => {
-            if count_between(*i, *j) > MAX_RANGE {
+            if count_between(*i, *j) > MAX_ITEMS as u64 {
                 return Err(OpFault::TooMany);
             }
             made(Val::Arr(integers(alloc, *i, *j)?))

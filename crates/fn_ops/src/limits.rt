@@ -10,7 +10,7 @@ use cv_values::{Fields, Val, depth_of, size_of};
 
 const MAX_DEPTH: u32 = 96;
 
-const MAX_ITEMS: usize = 8192;
+pub(crate) const MAX_ITEMS: usize = 8192;
 
 const MAX_NAMES: usize = 1024;
 

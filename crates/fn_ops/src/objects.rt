@@ -1,4 +1,4 @@
-//! Operations on objects and their fields.
+//! Operations that make objects, and the names of an object.
 ghost use Rattle.std.specs.Prelude.{◌≡◌, ◌≢◌, ◌++◌, ◌∷◌, [], IfOk, IfErr, Ok, Err, map, filter, not, false};
 ghost use Rattle.std.specs.BTreeMap.{is_at};
 ghost use Rattle.std.specs.List.{list_any};
@@ -7,41 +7,12 @@ ghost use Rattle.cv_values.specs.Order.{text_cmp};
 ghost use Rattle.cv_values.specs.Sizes.{is_bad_name};
 ghost use Rattle.cv_values.specs.Trees.{tree};
 ghost use Rattle.cv_values.specs.Value.{object, string, members_of};
-ghost use Rattle.fn_ops.specs.Operations.{field, has, set, without, keys, object_of};
+ghost use Rattle.fn_ops.specs.Operations.{set, without, keys, object_of};
 
 use crate::fault::OpFault;
 use crate::limits::made;
 use cv_values::{Fields, Memory, Text, Val, Vals};
 use std::alloc::Global;
-
-/// `a.name`: the value of a field of an object, which is copied. It costs a search over the names.
-///
-/// Errors: `Type_` where `a` is no object, `NoField`.
-pub fn field(alloc: Global, a: &Val, name: &Text) -> Result<Val, OpFault>
-    ensures ok { IfOk result (λ v. field (tree a.now) name.now ≡ Ok (tree v)) }
-    ensures err { IfErr result (λ e. e ≢ OpFault.Memory → field (tree a.now) name.now ≡ Err e) }
-{
-    match a {
-        Val::Obj(fields) => match fields.get(name) {
-            Some(v) => Ok(v.copy(alloc)?),
-            None => Err(OpFault::NoField),
-        },
-        _ => Err(OpFault::Type_),
-    }
-}
-
-/// Whether an object has a name. It takes no memory, and costs a search over the names.
-///
-/// Errors: `Type_` where `a` is no object or `b` no string.
-pub fn has(_alloc: Global, a: &Val, b: &Val) -> Result<Val, OpFault>
-    ensures ok { IfOk result (λ v. has (tree a.now) (tree b.now) ≡ Ok (tree v)) }
-    ensures err { IfErr result (λ e. has (tree a.now) (tree b.now) ≡ Err e) }
-{
-    match (a, b) {
-        (Val::Obj(fields), Val::Str(name)) => Ok(Val::Bool(fields.get(name).is_some())),
-        _ => Err(OpFault::Type_),
-    }
-}
 
 /// The object `a` with the value `c` at the name `b`, whether the name was there or not. The object
 /// and the value are copied whole.
@@ -64,7 +35,7 @@ pub fn set(alloc: Global, a: &Val, b: &Val, c: &Val) -> Result<Val, OpFault>
 /// What [`set`] gives of the object of these fields. Nothing is copied: the fields, the name and
 /// the value go into the result, and are gone where there is none.
 #[tactic(auto, using(crate::proofs::Views::views))]
-pub fn set_in(fields: Fields, name: Text, v: Val) -> Result<Val, OpFault>
+pub fn set_in(mut fields: Fields, name: Text, v: Val) -> Result<Val, OpFault>
     ensures ok { IfOk result
         (λ w. set (object (members_of fields)) (string name) (tree v) ≡ Ok (tree w)) }
     ensures err { IfErr result
@@ -73,7 +44,6 @@ pub fn set_in(fields: Fields, name: Text, v: Val) -> Result<Val, OpFault>
     if is_bad_name(&name) {
         return Err(OpFault::BadName);
     }
-    let mut fields = fields;
     drop(fields.insert(name, v)?);
     made(Val::Obj(fields))
 }

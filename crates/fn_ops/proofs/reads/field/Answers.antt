@@ -1,7 +1,7 @@
 use Rattle.std.proofs.Common.{Some, None, Ok, ap, sym, ◌∙◌}
 use Rattle.cv_values.specs.Trees.{tree}
 use Rattle.fn_ops.proofs.Views.{field_is}
-use Rattle.fn_ops.proofs.objects.field.Goals as goal
+use Rattle.fn_ops.proofs.reads.field.Goals as goal
 
 pub returns-in_ok-copy-in-Some-clause-ok : goal.returns-in_ok-copy-in-Some-clause-ok
 returns-in_ok-copy-in-Some-clause-ok c = rw c.in-Obj.is

@@ -2,7 +2,7 @@ use Rattle.std.proofs.Common.{◌<◌, ◌^◌, length, ap, sym, ◌∙◌, arit
 use Rattle.std.proofs.lemmas.List.{length-map}
 use Rattle.cv_values.specs.Trees.{tree}
 use Rattle.fn_ops.proofs.Views.{length_of_array, length_of_object}
-use Rattle.fn_ops.proofs.arrays.length.Goals as goal
+use Rattle.fn_ops.proofs.reads.length.Goals as goal
 
 pub returns-in-Arr-clause-ok : goal.returns-in-Arr-clause-ok
 returns-in-Arr-clause-ok c =

@@ -1,7 +1,7 @@
 use Rattle.std.proofs.Common.{Ok, ap, sym, ◌∙◌}
 use Rattle.cv_values.specs.Value.{boolean}
 use Rattle.fn_ops.proofs.Views.{has_is}
-use Rattle.fn_ops.proofs.objects.has.Goals as goal
+use Rattle.fn_ops.proofs.reads.has.Goals as goal
 
 pub returns-in-Obj-Str-clause-ok : goal.returns-in-Obj-Str-clause-ok
 returns-in-Obj-Str-clause-ok c = rw (c.in-Obj-Str.is-0, c.in-Obj-Str.is-1)
