@@ -14,6 +14,6 @@ mod tests;
 pub use arithmetic::{add, divide, multiply, negate, not, remainder, show, subtract};
 pub use arrays::{array_of, push, push_onto, range, slice};
 pub use fault::OpFault;
-pub use laws::worked_operations;
+pub use laws::{changes_are_read_back, division_is_exact, worked_operations};
 pub use objects::{keys, object_of, set, set_in, without};
 pub use reads::{field, has, item, length};

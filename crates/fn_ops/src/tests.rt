@@ -234,76 +234,96 @@ fn strings_and_arrays_grow(rt: HostRuntime) -> Result<(), Fail> {
 fn objects_are_read_by_name(rt: HostRuntime) -> Result<(), Fail> {
     let alloc = rt.alloc();
     let object = object_of(alloc, fields(alloc, &[("b", 2), ("a", 1)])?)?;
-    let (name, absent) = (text(alloc, "b")?, text(alloc, "B")?);
-    let (a, none) = (Text::of(alloc, "a")?, Text::of(alloc, "")?);
-    agree(
-        &rt,
-        &[
-            (field(alloc, &object, &a), Ok(Val::Int(1))),
-            (field(alloc, &object, &none), Err(OpFault::NoField)),
-            (item(alloc, &object, &name), Ok(Val::Int(2))),
-            (item(alloc, &object, &absent), Err(OpFault::NoField)),
-            (has(alloc, &object, &name), Ok(Val::Bool(true))),
-            (has(alloc, &object, &absent), Ok(Val::Bool(false))),
-        ],
-    );
+    let absent = Err(OpFault::NoField);
+    for (name, found) in [("a", Ok(1)), ("b", Ok(2)), ("B", absent), ("", absent)] {
+        let name = Text::of(alloc, name)?;
+        assert_eq!(rt; field(alloc, &object, &name), found.map(Val::Int));
+        let name = Val::Str(name);
+        assert_eq!(rt; item(alloc, &object, &name), found.map(Val::Int));
+        assert_eq!(rt; has(alloc, &object, &name), Ok(Val::Bool(found.is_ok())));
+    }
     Ok(())
 }
 
 #[test]
-fn objects_are_changed_by_name(rt: HostRuntime) -> Result<(), Fail> {
+fn a_field_is_set_new_or_not(rt: HostRuntime) -> Result<(), Fail> {
     let alloc = rt.alloc();
-    let object = Val::Obj(fields(alloc, &[("a", 1), ("b", 2)])?);
-    for (name, n, members) in [
-        ("b", 9, [("a", 1), ("b", 9)].as_slice()),
-        ("_c", 3, [("a", 1), ("b", 2), ("_c", 3)].as_slice()),
+    for (name, members) in [
+        ("b", [("a", 1), ("b", 9)].as_slice()),
+        ("_c", [("a", 1), ("b", 2), ("_c", 9)].as_slice()),
     ] {
         let wanted = Val::Obj(fields(alloc, members)?);
-        assert_eq!(rt;
-            set(alloc, &object, &text(alloc, name)?, &Val::Int(n))?,
-            wanted
-        );
-        let owned = fields(alloc, &[("a", 1), ("b", 2)])?;
-        assert_eq!(rt; set_in(owned, Text::of(alloc, name)?, Val::Int(n))?, wanted);
+        let object = Val::Obj(fields(alloc, &[("a", 1), ("b", 2)])?);
+        let name = text(alloc, name)?;
+        assert_eq!(rt; set(alloc, &object, &name, &Val::Int(9)), Ok(wanted));
     }
+    let made = set_in(
+        fields(alloc, &[("a", 1)])?,
+        Text::of(alloc, "a")?,
+        Val::Int(9),
+    );
+    assert_eq!(rt; made, Ok(Val::Obj(fields(alloc, &[("a", 9)])?)));
+    Ok(())
+}
+
+#[test]
+fn a_field_is_left_out_if_it_was_there(rt: HostRuntime) -> Result<(), Fail> {
+    let alloc = rt.alloc();
     for (name, members) in [
         ("b", [("a", 1)].as_slice()),
         ("$", [("a", 1), ("b", 2)].as_slice()),
     ] {
         let wanted = Val::Obj(fields(alloc, members)?);
-        assert_eq!(rt; without(alloc, &object, &text(alloc, name)?)?, wanted);
+        let object = Val::Obj(fields(alloc, &[("a", 1), ("b", 2)])?);
+        let name = text(alloc, name)?;
+        assert_eq!(rt; without(alloc, &object, &name), Ok(wanted));
     }
+    Ok(())
+}
+
+#[test]
+fn bad_names_are_refused(rt: HostRuntime) -> Result<(), Fail> {
+    let alloc = rt.alloc();
     for bad in ["", "$", "$a"] {
-        let made = set(alloc, &object, &text(alloc, bad)?, &Val::Null);
-        assert_eq!(rt; made, Err(OpFault::BadName));
-        let made = object_of(alloc, fields(alloc, &[("a", 1), (bad, 2)])?);
+        let members = fields(alloc, &[("a", 1), (bad, 2)])?;
+        assert_eq!(rt; object_of(alloc, members), Err(OpFault::BadName));
+        let name = text(alloc, bad)?;
+        let made = set(alloc, &Val::Obj(Fields::new(alloc)), &name, &Val::Null);
         assert_eq!(rt; made, Err(OpFault::BadName));
     }
     Ok(())
 }
 
 #[test]
-fn values_that_are_made_have_limits(rt: HostRuntime) -> Result<(), Fail> {
+fn deep_comes_before_many(rt: HostRuntime) -> Result<(), Fail> {
     let alloc = rt.alloc();
-    let empty = Val::Arr(Vals::new(alloc));
-    let deep = nested(alloc, 96)?;
     let long = array_of(alloc, nulls(alloc, 8192)?)?;
+    let deepest = push(alloc, &Val::Arr(Vals::new(alloc)), &nested(alloc, 95)?)?;
+    agree(
+        &rt,
+        &[
+            (length(alloc, &long), Ok(Val::Int(8192))),
+            (push(alloc, &long, &Val::Null), Err(OpFault::TooMany)),
+            (push(alloc, &long, &deepest), Err(OpFault::TooDeep)),
+        ],
+    );
+    Ok(())
+}
+
+#[test]
+fn many_comes_before_large(rt: HostRuntime) -> Result<(), Fail> {
+    let alloc = rt.alloc();
     let half = letters(alloc, 4_194_303)?;
     let large = add(alloc, &half, &half)?;
-    let more = nulls(alloc, 8193)?;
+    let long = Val::Arr(nulls(alloc, 8192)?);
     agree(
         &rt,
         &[
             (length(alloc, &large), Ok(Val::Int(8_388_606))),
-            (push(alloc, &empty, &deep), Err(OpFault::TooDeep)),
-            (push(alloc, &long, &deep), Err(OpFault::TooDeep)),
-            (push(alloc, &long, &large), Err(OpFault::TooMany)),
-            (array_of(alloc, more), Err(OpFault::TooMany)),
             (add(alloc, &large, &half), Err(OpFault::TooLarge)),
-            (push(alloc, &empty, &large), Err(OpFault::TooLarge)),
+            (push(alloc, &long, &large), Err(OpFault::TooMany)),
         ],
     );
-    assert_eq!(rt; push(alloc, &empty, &nested(alloc, 95)?)?, deep);
     Ok(())
 }
 
