@@ -3,11 +3,10 @@ ghost use Rattle.std.specs.Prelude.{◌≡◌};
 use cv_values::Memory;
 use thiserror::Error;
 
-/// Why an operation gives no value. An operation that deserves several answers the first: `Type_`,
-/// then the others of its own, then `TooDeep`, `TooMany` and `TooLarge`. `Memory` may come in place
-/// of any answer.
+/// Why an operation gives no value. Where several hold, the first counts: `Type_`, then the faults of
+/// the operation itself, then `TooDeep`, `TooMany` and `TooLarge`.
 ///
-/// The text of a fault is its name, and `TypeError` for `Type_`.
+/// A fault is displayed by its name, and `Type_` as `TypeError`.
 #[derive(Clone, Copy, Debug, PartialEq, Eq, Error)]
 pub enum OpFault {
     /// An operand is of another kind than the operation takes.
