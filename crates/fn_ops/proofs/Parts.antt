@@ -1,5 +1,5 @@
 -- Parts of a list of values.
-use Rattle.std.proofs.Common.{◌≡◌, ◌≤◌, ◌<◌, ℕ, ℤ, pos, List, length, map, take, drop, Option, Some, None, option_map, Bor, refl, ap, sym, ◌∙◌, arith, ◌⊎◌}
+use Rattle.std.proofs.Common.{◌≡◌, ◌≤◌, ◌<◌, ℕ, pos, List, length, map, take, drop, Option, Some, None, option_map, Bor, ap, sym, ◌∙◌, arith, ◌⊎◌}
 use Rattle.std.proofs.lemmas.List.{take-map, drop-map, length-map}
 use Rattle.std.specs.List.{PartBy, slice_range}
 use Rattle.cv_values.specs.Trees.{tree}

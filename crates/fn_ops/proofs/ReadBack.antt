@@ -1,10 +1,10 @@
 -- What operations leave is what others read.
-use Rattle.std.proofs.Common.{◌≡◌, ◌≢◌, ◌+◌, ◌<◌, ◌≤ℤ◌, ℕ, zero, suc, ℤ, pos, negsuc, ◌+ℤ◌, ◌*ℤ◌, neg_ℤ, Bool, true, false, not, cond, nat_lt, List, [], ◌∷◌, ◌++◌, length, Option, Some, None, Ok, Err, Ordering, Less, Equal, Greater, refl, sym, ap, ◌∙◌, subst, arith, length-append}
+use Rattle.std.proofs.Common.{◌≡◌, ◌≢◌, ◌+◌, ◌<◌, ◌≤ℤ◌, ℕ, zero, suc, ℤ, pos, negsuc, ◌+ℤ◌, ◌*ℤ◌, Bool, true, false, not, cond, nat_lt, List, [], ◌∷◌, ◌++◌, length, Some, None, Ok, Err, Ordering, Less, Equal, Greater, refl, sym, ap, ◌∙◌, subst, arith, length-append}
 use Rattle.std.proofs.lemmas.Cmp.{nat_list_cmp_total}
 use Rattle.std.proofs.lemmas.Int.{ints, quot-rem, rem_below}
 use Rattle.std.proofs.lemmas.Map.Entries.{lookup-filter-keys}
 use Rattle.std.proofs.lemmas.Map.Lookups.{exact_bytes}
-use Rattle.std.specs.BTreeMap.{insert_entry, is_at}
+use Rattle.std.specs.BTreeMap.{is_at}
 use Rattle.std.specs.Map.{lookup}
 use Rattle.std.specs.Option.{is_some}
 use Rattle.std.specs.Ordering.{is_eq, ordering_reverse, match_ordering}
@@ -13,10 +13,9 @@ use Rattle.cv_values.specs.Docs.{with_member}
 use Rattle.cv_values.specs.Equality.{list_of-values_of, pairs_of-members_of}
 use Rattle.cv_values.specs.Order.{text_cmp}
 use Rattle.cv_values.specs.Sizes.{size_of, has_many, is_bad_name}
-use Rattle.cv_values.specs.Value.{Value, int, boolean, string, array, object, Values, values_of, list_of, Members, members_of, pairs_of, depth_of}
+use Rattle.cv_values.specs.Value.{Value, int, boolean, string, array, object, values_of, list_of, members_of, pairs_of, depth_of}
 use Rattle.fn_ops.specs.OperationLaws.{DivisionIsExact, SetIsRead, WithoutIsRead, PushIsRead}
-use Rattle.fn_ops.specs.Operations.{Given, made, fits, integer, is_zero, divide, remainder, field, item, some_or, length_of, count, has, push, set, without, without_field}
-use Rattle.fn_ops.specs.declared.fault.OpFault.{OpFault}
+use Rattle.fn_ops.specs.Operations.{made, fits, integer, is_zero, divide, remainder, field, item, some_or, length_of, count, has, without_field}
 use Rattle.fn_ops.specs.declared.fault.OpFault.TheVariants.{TooDeep, TooMany, TooLarge, BadName, Overflow, DivisionByZero, NoField, OutOfRange}
 
 -- what is within the limits is given as it is

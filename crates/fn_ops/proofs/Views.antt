@@ -7,7 +7,7 @@ use Rattle.std.specs.Option.{is_some}
 use Rattle.cv_values.specs.Equality.{list_of-values_of, pairs_of-members_of}
 use Rattle.cv_values.specs.Order.{text_cmp}
 use Rattle.cv_values.specs.Trees.{tree}
-use Rattle.cv_values.specs.Value.{Value, int, array, object, string, boolean, values_of, list_of, members_of, pairs_of}
+use Rattle.cv_values.specs.Value.{Value, int, array, object, string, boolean, values_of, members_of}
 use Rattle.cv_values.specs.declared.val.Val.{Val}
 use Rattle.fn_ops.specs.Operations.{Given, field, has, length_of, count, part, slice, array_of, array_or, some_or}
 use Rattle.fn_ops.specs.declared.fault.OpFault.{OpFault}

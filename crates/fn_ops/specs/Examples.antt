@@ -1,5 +1,5 @@
 -- The operations on a few values.
-use Rattle.std.specs.Prelude.{◌≡◌, ℕ, ◌-◌, ◌^◌, ℤ, pos, negsuc, true, false, List, [], ◌∷◌, codes, Ok, Err}
+use Rattle.std.specs.Prelude.{◌≡◌, ℕ, ◌-◌, ◌^◌, pos, negsuc, true, false, List, [], ◌∷◌, codes, Ok, Err}
 use Rattle.cv_values.specs.Value.{Value, null, int, boolean, string, array, object, values_of, members_of}
 use Rattle.fn_ops.specs.declared.fault.OpFault.TheVariants.{Type_, Overflow, DivisionByZero, NoField, OutOfRange, BadName, TooMany}
 use Rattle.fn_ops.specs.Operations.{add, subtract, multiply, divide, remainder, negate, opposite, field, item, length_of, has, push, set, without, slice, range, show, keys, object_of}

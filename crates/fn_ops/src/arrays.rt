@@ -1,5 +1,5 @@
 //! Operations that make arrays.
-ghost use Rattle.std.specs.Prelude.{◌≡◌, ◌≢◌, ◌++◌, ◌∷◌, [], IfOk, IfErr, Ok, Err, map, option_map, ◌-ℤ◌};
+ghost use Rattle.std.specs.Prelude.{◌≡◌, ◌≢◌, IfOk, IfErr, Ok, Err, map, option_map, ◌-ℤ◌};
 ghost use Rattle.cv_values.specs.Trees.{tree};
 ghost use Rattle.cv_values.specs.Value.{array, values_of};
 ghost use Rattle.fn_ops.specs.Operations.{push, slice, range, array_of, integers, count_of, part};

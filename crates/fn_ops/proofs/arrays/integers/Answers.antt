@@ -1,4 +1,4 @@
-use Rattle.std.proofs.Common.{◌≡◌, ◌<ℤ◌, ◌+ℤ◌, pos, to_z, of_z, w64, FitsSigned, arith, ap, sym, ◌∙◌}
+use Rattle.std.proofs.Common.{◌<ℤ◌, ◌+ℤ◌, pos, to_z, of_z, w64, FitsSigned, arith}
 use Rattle.std.proofs.lemmas.Int.{ints, to_z-of_z}
 use Rattle.fn_ops.proofs.Ranges.{one_more}
 use Rattle.fn_ops.proofs.arrays.integers.Goals as goal

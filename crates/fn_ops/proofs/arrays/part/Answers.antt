@@ -1,4 +1,4 @@
-use Rattle.std.proofs.Common.{rules, ◌≡◌, pos, ap, sym, ◌∙◌}
+use Rattle.std.proofs.Common.{rules, ◌≡◌, pos}
 use Rattle.fn_ops.proofs.Parts.{part_is}
 use Rattle.fn_ops.proofs.arrays.part.Goals as goal
 

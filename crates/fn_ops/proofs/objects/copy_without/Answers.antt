@@ -1,6 +1,5 @@
-use Rattle.std.proofs.Common.{◌≡◌, ℕ, List, [], map, ap, ◌∙◌, rules}
+use Rattle.std.proofs.Common.{◌≡◌, [], map, ap, ◌∙◌, rules}
 use Rattle.cv_values.specs.Trees.{tree}
-use Rattle.cv_values.specs.Value.{Value}
 use Rattle.fn_ops.proofs.Kept.{inserted, others, inserted_others}
 use Rattle.fn_ops.proofs.objects.copy_without.Goals as goal
 
