@@ -10,6 +10,7 @@ use std::alloc::Global;
 /// `a.name`: the value of a field of an object, which is copied. It costs a search over the names.
 ///
 /// Errors: `Type_` where `a` is no object, `NoField`.
+#[tactic(auto, using(crate::proofs::Views::field_is))]
 pub fn field(alloc: Global, a: &Val, name: &Text) -> Result<Val, OpFault>
     ensures ok { IfOk result (λ v. field (tree a.now) name.now ≡ Ok (tree v)) }
     ensures err { IfErr result (λ e. e ≢ OpFault.Memory → field (tree a.now) name.now ≡ Err e) }
@@ -69,6 +70,7 @@ pub fn length(_alloc: Global, a: &Val) -> Result<Val, OpFault>
 /// Whether an object has a name. It takes no memory, and costs a search over the names.
 ///
 /// Errors: `Type_` where `a` is no object or `b` no string.
+#[tactic(auto, using(crate::proofs::Views::has_is))]
 pub fn has(_alloc: Global, a: &Val, b: &Val) -> Result<Val, OpFault>
     ensures ok { IfOk result (λ v. has (tree a.now) (tree b.now) ≡ Ok (tree v)) }
     ensures err { IfErr result (λ e. has (tree a.now) (tree b.now) ≡ Err e) }
