@@ -4,6 +4,7 @@ use Rattle.cv_values.specs.Value.{Value, null, int, boolean, string, array, obje
 use Rattle.fn_ops.specs.declared.fault.OpFault.TheVariants.{Type_, Overflow, DivisionByZero, NoField, OutOfRange, BadName, TooMany}
 use Rattle.fn_ops.specs.Operations.{add, subtract, multiply, divide, remainder, negate, opposite, field, item, length_of, has, push, set, without, slice, range, show, keys, object_of}
 
+-- an integer from 0 on
 abbrev number : ℕ → Value
 number n = int (pos n)
 
@@ -11,15 +12,19 @@ number n = int (pos n)
 abbrev minus_suc : ℕ → Value
 minus_suc n = int (negsuc n)
 
+-- the least integer of 64 bits
 abbrev least : Value
 least = minus_suc (2 ^ 63 - 1)
 
+-- the greatest one
 abbrev greatest : Value
 greatest = number (2 ^ 63 - 1)
 
+-- a string of these bytes
 abbrev text : List ℕ → Value
 text s = string s
 
+-- an array of these items
 abbrev list : List Value → Value
 list vs = array (values_of vs)
 
@@ -27,6 +32,7 @@ list vs = array (values_of vs)
 abbrev two_fields : List (List ℕ × Value)
 two_fields = (codes "a", number 1) ∷ (codes "b", number 2) ∷ []
 
+-- the object of them
 abbrev two : Value
 two = object (members_of two_fields)
 
