@@ -1,7 +1,9 @@
 pub mod Answering
 pub mod Descent
+pub mod FirstFaults
 pub mod Lexing
 pub mod Numbers
 pub mod Places
 pub mod Reading
 pub mod Texts
+pub mod TooDeep
