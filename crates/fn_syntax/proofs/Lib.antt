@@ -2,6 +2,7 @@ pub mod Answering
 pub mod Chains
 pub mod Closings
 pub mod Descent
+pub mod FirstFaults
 pub mod Items
 pub mod Lexing
 pub mod Nexts
@@ -12,3 +13,4 @@ pub mod Reading
 pub mod Says
 pub mod Signs
 pub mod Texts
+pub mod TooDeep

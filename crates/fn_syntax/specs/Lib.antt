@@ -1,5 +1,6 @@
 pub mod Classes
 pub mod Descents
+pub mod FirstFaults
 pub mod Levels
 pub mod Means
 pub mod Numbers

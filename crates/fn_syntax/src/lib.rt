@@ -2,7 +2,9 @@
 //! first fault of bytes that are no such text.
 #![tactic(auto)]
 
+mod laws;
 mod lexer;
+mod module_text;
 mod nesting;
 mod number;
 mod parser;
@@ -13,4 +15,6 @@ mod utf8;
 mod value;
 
 pub use fn_tree::{SyntaxFault, Why};
+pub use laws::one_fault;
+pub use module_text::parse;
 pub use token::{Token, TokenKind, tokens};

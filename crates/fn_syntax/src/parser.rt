@@ -7,3 +7,7 @@ mod list;
 mod name;
 mod primary;
 mod read;
+mod whole;
+
+pub(crate) use cursor::Stop;
+pub(crate) use whole::module;

@@ -2,10 +2,12 @@ pub mod AsciiEnds
 pub mod Begins
 pub mod Follows
 pub mod FormViews
+pub mod Frames
 pub mod Fronts
 pub mod Language
 pub mod LanguageTables
 pub mod Legal
+pub mod ModuleTexts
 pub mod OriginOfIds
 pub mod Places
 pub mod StringsSay

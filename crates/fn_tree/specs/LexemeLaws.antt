@@ -1,5 +1,5 @@
 -- Laws of the tokens of texts.
-use Rattle.std.specs.Prelude.{◌≡◌, ℕ, ◌+◌, ◌<◌, ◌≤◌, List, [], ◌∷◌, length, drop, All}
+use Rattle.std.specs.Prelude.{◌≡◌, ℕ, ◌+◌, ◌<◌, ◌≤◌, List, [], ◌∷◌, length, drop, Some, All}
 use Rattle.std.specs.Str.{IsUtf8}
 use Rattle.fn_tree.specs.Lexemes.{begins, lexemes_of, integer_value, greatest_integer}
 use Rattle.fn_tree.specs.LexemeValues.{slice_of, text_of, string_value}
@@ -15,6 +15,10 @@ StandApart from to (x ∷ xs) = (from ≤ x.at) × (0 < x.len) × StandApart (x.
 -- the tokens of a text stand apart in it
 abbrev pub TokensStandApart : Type 0
 TokensStandApart = (text : List ℕ) → StandApart 0 (length text) (lexemes_of text).lexemes
+
+-- they stand apart before the place at which no token begins, which is in the text
+abbrev pub BadComesAfter : Type 0
+BadComesAfter = (text : List ℕ) (bad : ℕ) → (lexemes_of text).bad ≡ Some bad → StandApart 0 bad (lexemes_of text).lexemes × (bad < length text)
 
 -- each token of a text is what the text begins with at its place
 abbrev pub TokensAreRead : Type 0
