@@ -8,6 +8,14 @@ fn fault_of(alloc: Global, bytes: &[u8]) -> Result<Option<SyntaxFault>, Memory> 
     Ok(parse(alloc, bytes)?.err())
 }
 
+fn blanks(alloc: Global, len: usize) -> Result<Vec<u8>, Memory> {
+    let mut bytes = Vec::new(alloc);
+    for _ in 0..len {
+        bytes.push(b' ')?;
+    }
+    Ok(bytes)
+}
+
 #[test]
 fn a_module_is_read(rt: HostRuntime) -> Result<(), Fail> {
     let text = "table t { index by_a(a, \"b c\"); } // and\nquery m/n:f(x) { return x; }";
@@ -38,15 +46,35 @@ fn the_first_fault_is_told(rt: HostRuntime) -> Result<(), Fail> {
         ("table t { @", Why::BadToken, 10),
         ("query", Why::EarlyEnd, 5),
         ("query // é", Why::EarlyEnd, 11),
-        ("query m:f(){return ((((((((((((((((((((((((((((((((", Why::TooDeep, 50),
-        ("query m:f(){return (((((((((((((((((((((((((((((((1(", Why::TooDeep, 51),
-        ("query m:f(){return ((((((((((((((((((((((((((((((()(", Why::WrongToken, 50),
-        ("query m:f(){return ((((((((((((((((((((((((((((((((@", Why::TooDeep, 50),
+        (
+            "query m:f(){return ((((((((((((((((((((((((((((((((",
+            Why::TooDeep,
+            50,
+        ),
+        (
+            "query m:f(){return (((((((((((((((((((((((((((((((1(",
+            Why::TooDeep,
+            51,
+        ),
+        (
+            "query m:f(){return ((((((((((((((((((((((((((((((()(",
+            Why::WrongToken,
+            50,
+        ),
+        (
+            "query m:f(){return ((((((((((((((((((((((((((((((((@",
+            Why::TooDeep,
+            50,
+        ),
         ("((((((((((((((((((((((((((((((((((", Why::WrongToken, 0),
     ];
     for (text, why, at) in rows {
         let fault = SyntaxFault { at, why };
-        assert_eq!(rt; fault_of(rt.alloc(), text.as_bytes())?, Some(fault), "{text}");
+        assert_eq!(rt;
+            fault_of(rt.alloc(), text.as_bytes())?,
+            Some(fault),
+            "{text}"
+        );
     }
     Ok(())
 }
@@ -58,13 +86,15 @@ fn bytes_that_are_no_text_are_faults(rt: HostRuntime) -> Result<(), Fail> {
         at: 3,
         why: Why::NotUtf8,
     };
-    assert_eq!(rt; fault_of(alloc, &[b'@', 0xC3, 0xA9, 0xC3, b'@'])?, Some(fault));
-    let blanks = vec![in alloc; b' '; 1_048_577]?;
-    assert_eq!(rt; fault_of(alloc, &blanks[..1_048_576])?, None);
+    assert_eq!(rt;
+        fault_of(alloc, &[b'@', 0xC3, 0xA9, 0xC3, b'@'])?,
+        Some(fault)
+    );
     let fault = SyntaxFault {
         at: 1_048_576,
         why: Why::TooLong,
     };
-    assert_eq!(rt; fault_of(alloc, &blanks)?, Some(fault));
+    assert_eq!(rt; fault_of(alloc, &blanks(alloc, 1_048_576)?)?, None);
+    assert_eq!(rt; fault_of(alloc, &blanks(alloc, 1_048_577)?)?, Some(fault));
     Ok(())
 }
