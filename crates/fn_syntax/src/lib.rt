@@ -7,6 +7,8 @@ mod lexer;
 mod module_text;
 mod nesting;
 mod number;
+#[cfg(test)]
+mod parse_tests;
 mod parser;
 #[cfg(test)]
 mod tests;
