@@ -16,7 +16,8 @@ use Rattle.fn_tree.proofs.Fronts.{ends_trans, ends_full, ends_length, takes_ends
 use Rattle.fn_tree.proofs.LanguageTables.{tables, sound}
 use Rattle.fn_tree.proofs.Tables.{nil, starts, shut_at}
 use Rattle.fn_tree.proofs.Follows.{takes_same}
-use Rattle.fn_tree.proofs.Tokens.{true_or_false}
+use Rattle.fn_tree.specs.Terminals.{is}
+use Rattle.fn_tree.proofs.Tokens.{true_or_false, same_is}
 
 -- what the second production does at the rest, the first does at the list; f makes its parse
 pub record Makes (p : Prod) (f : Parse → Parse) (ts : List Lexeme) (q : Prod) (rest : List Lexeme) : Type 0 where
@@ -196,3 +197,29 @@ not_shorter h e = let k = ends_length e in omega arith
 
 pub finds_shorter : {p : Prod} {a : Parse} {ts r : List Lexeme} → Finds grammar p a ts r → length r ≤ length ts
 finds_shorter f = ends_length (takes_ends f.takes)
+
+-- an alternative where the other doesn't begin
+pub makes_left_before : {p q : Prod} {ts : List Lexeme} → Fails grammar q ts ts → Makes (alt p q) in_left ts p ts
+makes_left_before f = makes_left_by none_yet f.last f.none
+
+pub makes_right_after : {p q : Prod} {ts : List Lexeme} → Fails grammar p ts ts → Makes (alt p q) in_right ts q ts
+makes_right_after f = makes_right_by none_yet f.last f.none
+
+-- a token that doesn't begin a production is next
+pub shut_by : {p : Prod} (u : Terminal) {a : Parse} {ts r : List Lexeme} → starts tables p u ≡ false → nil tables p ≡ false → Finds grammar (token (is u)) a ts r → Fails grammar p ts ts
+shut_by {p = p} u h k f = go u h k f.takes
+  where
+    go : {p : Prod} (u : Terminal) {a : Parse} {ts r : List Lexeme} → starts tables p u ≡ false → nil tables p ≡ false → Takes grammar (token (is u)) a ts r → Fails grammar p ts ts
+    go {p = p} u h k (one {c = c} e) = shut (subst (λ (t : Terminal). starts tables p t ≡ false) (sym (same_is u c.terminal e)) h) k
+
+-- a part that may be left out, then a part that doesn't stand here
+pub opt_then_fails : {p q : Prod} {ts r : List Lexeme} → NoClash grammar (opt p) q → Fails grammar p ts r → Fails grammar q ts ts → Fails grammar (seq (opt p) q) ts r
+opt_then_fails n f h = go n f h (reads_ends f.reads)
+  where
+    go : {p q : Prod} {ts r : List Lexeme} → NoClash grammar (opt p) q → Fails grammar p ts r → Fails grammar q ts ts → Ends r ts → Fails grammar (seq (opt p) q) ts r
+    go {r = r} n f h same = (makes_next n (left_out f)).fails r h
+    go {r = r} n f h (before e) = seq_fails n ((makes_in f.reads (λ x. not_behind (ends_trans x e))).fails r f)
+
+-- a part that may be left out, and stands here
+pub there : {p : Prod} {a : Parse} {ts m : List Lexeme} → Finds grammar p a ts m → length m < length ts → Finds grammar (opt p) (in_left a) ts m
+there f h = (makes_in (takes_reads f.takes) (not_shorter h)).found _ _ f

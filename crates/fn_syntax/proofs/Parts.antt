@@ -5,7 +5,6 @@ use Rattle.fn_tree.specs.Grammar.{Prod, Parse, Takes, Reads, token, seq, turns, 
 use Rattle.fn_tree.specs.Grammar.Takes.{one, both}
 use Rattle.fn_tree.specs.Grammar.Reads.{the_token, in_first, in_call}
 use Rattle.fn_tree.specs.Language.{grammar}
-use Rattle.fn_tree.specs.ParseTrees.{second}
 use Rattle.fn_tree.specs.Rules.{Rule}
 use Rattle.fn_tree.specs.Terminals.{is}
 use Rattle.fn_tree.specs.declared.lexeme.Lexeme.{Lexeme}
@@ -15,21 +14,8 @@ use Rattle.fn_tree.proofs.LanguageTables.{tables}
 use Rattle.fn_tree.proofs.Tables.{nil, starts}
 use Rattle.fn_tree.proofs.Tokens.{and, or, no, no_false, not_true, is_false, each, at_each}
 use Rattle.fn_syntax.specs.Classes.{next_is}
-use Rattle.fn_syntax.specs.Means.{first}
 use Rattle.fn_syntax.specs.declared.parser.class.Class.TheVariants.{Only}
 use Rattle.fn_syntax.proofs.Descent.{Makes, makes_same, makes_on, makes_next, makes_turn, makes_in, turns_end, left_out, not_shorter, shut, shut_end}
-
--- a text of two parts is read as two
-pub two_parts : {p q : Prod} {a : Parse} {ts r : List Lexeme} → Takes grammar (seq p q) a ts r → a ≡ pair (first a) (second a)
-two_parts (both t u) = refl
-
--- a part that may be left out was missed, and what stands behind it isn't here
-pub misses_both : {p q : Prod} {ts r : List Lexeme} → NoClash grammar (opt p) q → Fails grammar p ts r → Fails grammar q ts ts → Fails grammar (seq (opt p) q) ts r
-misses_both n f h = go n f h (reads_ends f.reads)
-  where
-    go : {p q : Prod} {ts r : List Lexeme} → NoClash grammar (opt p) q → Fails grammar p ts r → Fails grammar q ts ts → Ends r ts → Fails grammar (seq (opt p) q) ts r
-    go n f h same = seq_fails_next n (left_out f) h
-    go {r = r} n f h (before e) = seq_fails n ((makes_in f.reads (λ x. not_behind (ends_trans x e))).fails r f)
 
 -- turns up to a rest, and what is known of their parse
 pub record Turned (p : Prod) (Known : (Parse → Parse) → Type 0) (ts rest : List Lexeme) : Type 0 where
@@ -61,10 +47,6 @@ misses_turn t n k f h = go t n k f h (reads_ends f.reads)
     go t n k f h same = seq_fails_next n (turns_over t f) h
     go {r = r} t n k f h (before e) = seq_fails n (t.makes.fails r ((makes_turn no_less f.reads (λ x. not_behind (ends_trans x e))).fails r (seq_fails k f)))
 
--- a part that may be left out was found
-pub put_in : {p : Prod} {a : Parse} {ts r : List Lexeme} → Finds grammar p a ts r → length r < length ts → Finds grammar (opt p) (in_left a) ts r
-put_in f h = (makes_in (takes_reads f.takes) (not_shorter h)).found _ _ f
-
 -- a turn of two parts, of which the second was missed
 pub second_missed : {p q : Prod} {Known : (Parse → Parse) → Type 0} {b : Parse} {ts m k r : List Lexeme} (t : Turned (seq p q) Known ts m) → NoClash grammar p q → NoClash grammar (seq p q) (turns endless (seq p q)) → Finds grammar p b m k → length k < length m → Fails grammar q k r → Fails grammar (turns endless (seq p q)) ts r
 second_missed t n o f h x = turn_missed t (in_first (takes_reads f.takes)) h o (seq_fails_next n f x)
@@ -81,13 +63,6 @@ begun_missed t b n f = turn_missed t (in_call b.1) b.2 n f
 pub begins : (u : Terminal) (q : Prod) (ts : List Lexeme) → next_is (Only u) ts ≡ true → (k : List Lexeme) × Reads grammar (seq (token (is u)) q) ts k × (length k < length ts)
 begins u q [] h = absurd (cc)
 begins u q (c ∷ ts) h = (ts, in_first (the_token h), omega arith)
-
--- a token is found where nothing of the production begins with it
-pub shut_by : {p : Prod} {f : Terminal → Bool} {a : Parse} {ts r : List Lexeme} → nil tables p ≡ false → ((t : Terminal) → f t ≡ true → starts tables p t ≡ false) → Finds grammar (token f) a ts r → Fails grammar p ts ts
-shut_by k h f = go k h f.takes
-  where
-    go : {p : Prod} {f : Terminal → Bool} {a : Parse} {ts r : List Lexeme} → nil tables p ≡ false → ((t : Terminal) → f t ≡ true → starts tables p t ≡ false) → Takes grammar (token f) a ts r → Fails grammar p ts ts
-    go k h (one {c = c} e) = shut (h c.terminal e) k
 
 -- nothing of the production begins where its only first token isn't next
 pub shut_next : {p : Prod} (u : Terminal) (ts : List Lexeme) → nil tables p ≡ false → ((t : Terminal) → is u t ≡ false → starts tables p t ≡ false) → next_is (Only u) ts ≡ false → Fails grammar p ts ts

@@ -1,11 +1,10 @@
 -- How far the tokens of a text have been read.
 use Rattle.std.proofs.Common.{◌≡◌, ℕ, zero, suc, ◌+◌, ◌-◌, ◌<◌, ◌≤◌, List, [], ◌∷◌, ◌++◌, length, take, drop, add-zero, refl, sym, ◌∙◌, ap, arith}
-use Rattle.std.specs.Prelude.{Option, Some, None}
 use Rattle.std.proofs.Math.Seq.{take-length}
-use Rattle.std.proofs.lemmas.List.{drop-drop, drop_all, length-drop, append_assoc, append-nil}
+use Rattle.std.proofs.lemmas.List.{drop-drop, length-drop, append_assoc}
 use Rattle.fn_tree.specs.Lexemes.{begins, begin_len, Lexed, put_begin, lexed_from, lexemes_of}
 use Rattle.fn_tree.specs.declared.begin.Begin.{Begin}
-use Rattle.fn_tree.specs.declared.begin.Begin.TheVariants.{Gap, Token, Bad}
+use Rattle.fn_tree.specs.declared.begin.Begin.TheVariants.{Gap, Token}
 use Rattle.fn_tree.specs.declared.lexeme.Lexeme.{Lexeme}
 use Rattle.fn_tree.specs.declared.lexeme.Terminal.{Terminal}
 use Rattle.fn_tree.proofs.Begins.{Fits, begins_fits}
@@ -59,12 +58,6 @@ fits_first (b ∷ bs) x h e = rw e (begins_fits b bs)
 pub fits_at : (text : List ℕ) (at : ℕ) (x : Begin) → at < length text → x ≡ begins (drop at text) → Fits x (length text - at)
 fits_at text at x h e = let f = fits_first (drop at text) x (rw length-drop (omega arith)) e in rw length-drop at f
 
--- where it ends
-pub ends_at : (text : List ℕ) (at : ℕ) (x : Begin) → at < length text → x ≡ begins (drop at text) → 0 < begin_len x → at + begin_len x ≤ length text
-ends_at text at (Gap n) h e some = let f = fits_at text at (Gap n) h e in omega (arith, f.1)
-ends_at text at (Token t n) h e some = let f = fits_at text at (Token t n) h e in omega (arith, f.1)
-ends_at text at Bad h e some = absurd (omega arith)
-
 -- after a gap
 pub gap_passed : (text : List ℕ) (at n : ℕ) (read : List Lexeme) → IsReadTo text at read → at < length text → Gap n ≡ begins (drop at text) → IsReadTo text (at + n) read
 gap_passed text at n read r h e =
@@ -77,19 +70,3 @@ pub token_read : (text : List ℕ) (at n : ℕ) (t : Terminal) (read : List Lexe
 token_read text at n t read r h e =
     let f : (0 < n) × (n ≤ length text - at) = fits_at text at (Token t n) h e in
     record { within = omega arith; same = rw append_assoc (r.same ∙ ap (after read) (read_at text at (Token t n) h e f.0)) }
-
-nothing_more : (read : List Lexeme) (bad : Option ℕ) → after read (record { lexemes = []; bad = bad }) ≡ record { lexemes = read; bad = bad }
-nothing_more read bad = rw append-nil
-
--- where no token begins
-first_bad : (at : ℕ) (bs : List ℕ) → 0 < length bs → Bad ≡ begins bs → lexed_from 0 at bs ≡ record { lexemes = []; bad = Some at }
-first_bad at [] h e = absurd (omega arith)
-first_bad at (b ∷ bs) h e = rw (← e)
-
-pub bad_found : (text : List ℕ) (at : ℕ) (read : List Lexeme) → IsReadTo text at read → at < length text → Bad ≡ begins (drop at text) → lexemes_of text ≡ record { lexemes = read; bad = Some at }
-bad_found text at read r h e =
-    r.same ∙ ap (after read) (first_bad at (drop at text) (rw length-drop (omega arith)) e) ∙ nothing_more read (Some at)
-
--- at the end
-pub all_read : (text : List ℕ) (at : ℕ) (read : List Lexeme) → IsReadTo text at read → length text ≤ at → lexemes_of text ≡ record { lexemes = read; bad = None }
-all_read text at read r h = r.same ∙ ap (λ (bs : List ℕ). after read (lexed_from 0 at bs)) (drop_all at text h) ∙ nothing_more read None

@@ -3,21 +3,20 @@ use Rattle.std.proofs.Common.{rules, ◌≡◌, ◌∙◌, ℕ, List, [], ◌∷
 use Rattle.std.specs.declared.alloc.Global.{Global}
 use Rattle.std.proofs.lemmas.List.{map-append}
 use Rattle.fn_tree.specs.Grammar.{Parse, leaf, none, pair, in_left, in_right}
-use Rattle.fn_tree.specs.ParseTrees.{turns_of, second, commas_of, said, token_of, named_of, at_of, parts_of, path_of, path_at, parameters_of, kind_of, index_of, table_of, entry_of, helper_of, expression_of, block_of, statements_of, statement_of, if_of, for_of, else_of, assignment_of, evaluation_of}
+use Rattle.fn_tree.specs.ParseTrees.{turns_of, second, commas_of, said, token_of, named_of, at_of, parts_of, path_of, path_at, parameters_of, kind_of, index_of, table_of, entry_of, helper_of, closed_of, block_of, closed_statements_of, statements_of, statement_of, if_of, for_of, else_of, assignment_of, evaluation_of}
 use Rattle.fn_tree.specs.SyntaxTree as plain
-use Rattle.fn_tree.specs.SyntaxViews.{BoundView, form_step, bound_step, expr_step, stmts_of, stmt_view, act_view, else_view, expr_view, index_view, table_view, function_view}
+use Rattle.fn_tree.specs.SyntaxViews.{stmts_of, stmt_view, act_view, else_view, expr_view, index_view, table_view, function_view}
 use Rattle.fn_tree.specs.declared.lexeme.Lexeme.{Lexeme}
 use Rattle.fn_tree.specs.declared.syntax.Named.{Named}
 use Rattle.fn_tree.specs.declared.syntax.Expr.{Expr}
-use Rattle.fn_tree.specs.declared.syntax.ExprForm.TheFolds.{fold_out-Expr}
 use Rattle.fn_tree.specs.declared.syntax.Stmt.{Stmt}
 use Rattle.fn_tree.specs.declared.syntax.StmtForm.TheVariants as act
 use Rattle.fn_tree.specs.declared.syntax.IndexDecl.{IndexDecl}
 use Rattle.fn_tree.specs.declared.syntax.TableDecl.{TableDecl}
 use Rattle.fn_tree.specs.declared.syntax.Function.{Function}
 use Rattle.fn_tree.specs.declared.syntax.Kind.TheVariants as Kind
-use Rattle.fn_tree.proofs.FormViews.{act-Assign, act-Eval, act-If, act-For}
-use Rattle.fn_syntax.specs.Means.{first, names_of}
+use Rattle.fn_tree.proofs.FormViews.{act-Assign, act-Eval, act-If, act-For, view_at}
+use Rattle.fn_syntax.specs.Means.{names_of}
 
 -- the items that a parse says are those so far and those of the rest
 abbrev pub Says : {U : Type 0} → (Parse → U) → List U → List U → (Parse → Parse) → Type 0
@@ -77,20 +76,16 @@ pub table_said : (s : List ℕ) (t : TableDecl) (w n o is a : Parse) → t.name 
 table_said s t w n o is a h k = rw (h, k) refl
 
 -- statements with the brace that closes them
-pub statements_said : (s : List ℕ) (body items : List Stmt) (m : Parse) → items ≡ body → map (statement_of s) (turns_of m) ≡ map stmt_view body → stmts_of (map stmt_view items) ≡ statements_of s m
-statements_said s body items m e h = rw (e, statements_list s m, h) refl
+pub statements_said : (s : List ℕ) (body items : List Stmt) (m close : Parse) → items ≡ body → map (statement_of s) (turns_of m) ≡ map stmt_view body → stmts_of (map stmt_view items) ≡ closed_statements_of s (pair m close)
+statements_said s body items m close e h = rw (e, statements_list s m, h) refl
 
 -- a new value of a variable
-pub assignment_said : (s : List ℕ) (n : Named) (e : Expr) (a q x : Parse) → n ≡ named_of s (token_of a) → expr_view e ≡ expression_of s (first x) → x ≡ pair (first x) (second x) → plain.stmt n.at (act_view (act.Assign n e)) ≡ assignment_of s (pair a (pair q x))
-assignment_said s n e a q x h k t = rw (t, act-Assign, h, k) refl
-
--- the place of an expression
-view_at : (e : Expr) → at_of (expr_view e) ≡ e.at
-view_at e = ap at_of (fold_out-Expr plain.Form BoundView plain.Expr form_step bound_step expr_step e)
+pub assignment_said : (s : List ℕ) (n : Named) (e : Expr) (a q x : Parse) → n ≡ named_of s (token_of a) → expr_view e ≡ closed_of s x → plain.stmt n.at (act_view (act.Assign n e)) ≡ assignment_of s (pair a (pair q x))
+assignment_said s n e a q x h k = rw (act-Assign, h, k) refl
 
 -- an expression alone
-pub evaluation_said : (s : List ℕ) (e : Expr) (x : Parse) → expr_view e ≡ expression_of s (first x) → x ≡ pair (first x) (second x) → plain.stmt e.at (act_view (act.Eval e)) ≡ evaluation_of s x
-evaluation_said s e x k t = rw (t, act-Eval, ← k) (ap (λ (at : ℕ). plain.stmt at (plain.evaluate (expr_view e))) (sym (view_at e)))
+pub evaluation_said : (s : List ℕ) (e : Expr) (x : Parse) → expr_view e ≡ closed_of s x → plain.stmt e.at (act_view (act.Eval e)) ≡ evaluation_of s x
+evaluation_said s e x k = rw (act-Eval, ← k) (ap (λ (at : ℕ). plain.stmt at (plain.evaluate (expr_view e))) (sym (view_at e)))
 
 -- a query or a mutation
 pub entry_said : (s : List ℕ) (f : Function) (word : Lexeme) (w p ps b : Parse) → f.kind ≡ kind_of word.terminal → word ≡ token_of w → f.udf ≡ path_of s p → f.at ≡ path_at p → f.params.items ≡ parameters_of s ps → stmts_of (map stmt_view f.body.items) ≡ block_of s b → function_view f ≡ entry_of s (pair w (pair p (pair ps b)))
@@ -100,22 +95,10 @@ entry_said s f word w p ps b e0 e1 e2 e3 e4 e5 = rw (e0, e1, e2, e3, e4, e5) ref
 pub helper_said : (s : List ℕ) (f : Function) (name : Named) (w n ps b : Parse) → f.kind ≡ Kind.Helper → name ≡ named_of s (token_of n) → f.udf ≡ name.text → f.at ≡ name.at → f.params.items ≡ parameters_of s ps → stmts_of (map stmt_view f.body.items) ≡ block_of s b → function_view f ≡ helper_of s (pair w (pair n (pair ps b)))
 helper_said s f name w n ps b e0 e1 e2 e3 e4 e5 = rw (e0, e2, e3, e1, e4, e5) refl
 
--- a block is its statements
-pub block_says : (s : List ℕ) (o a : Parse) → statements_of s (first a) ≡ block_of s (pair o a)
-block_says s o (leaf c) = refl
-block_says s o none = refl
-block_says s o (pair a b) = refl
-block_says s o (in_left a) = refl
-block_says s o (in_right a) = refl
-
 -- a block for each item
-pub for_said : (s : List ℕ) (word : Lexeme) (n : Named) (e : Expr) (body : Vec Stmt Global) (w o p i x b : Parse) → word ≡ token_of w → n ≡ named_of s (token_of p) → expr_view e ≡ expression_of s (first x) → x ≡ pair (first x) (second x) → stmts_of (map stmt_view body.items) ≡ block_of s b → plain.stmt word.at (act_view (act.For n e body)) ≡ for_of s (pair w (pair o (pair p (pair i (pair x b)))))
-for_said s word n e body w o p i x b hw h k t m =
-    let r : plain.stmt word.at (act_view (act.For n e body)) ≡ plain.stmt (token_of w).at (plain.each (named_of s (token_of p)) (expression_of s (first x)) (block_of s b)) = rw (act-For, hw, h, k, m) refl in
-    subst (λ (z : Parse). plain.stmt word.at (act_view (act.For n e body)) ≡ for_of s (pair w (pair o (pair p (pair i (pair z b)))))) (sym t) r
+pub for_said : (s : List ℕ) (word : Lexeme) (n : Named) (e : Expr) (body : Vec Stmt Global) (w o p i x b : Parse) → word ≡ token_of w → n ≡ named_of s (token_of p) → expr_view e ≡ closed_of s x → stmts_of (map stmt_view body.items) ≡ block_of s b → plain.stmt word.at (act_view (act.For n e body)) ≡ for_of s (pair w (pair o (pair p (pair i (pair x b)))))
+for_said s word n e body w o p i x b hw h k m = rw (act-For, hw, h, k, m) refl
 
 -- a choice
-pub if_said : (s : List ℕ) (word : Lexeme) (e : Expr) (body : Vec Stmt Global) (others : Option (Vec Stmt Global)) (w o x b l : Parse) → word ≡ token_of w → expr_view e ≡ expression_of s (first x) → x ≡ pair (first x) (second x) → stmts_of (map stmt_view body.items) ≡ block_of s b → else_view others ≡ else_of s l → plain.stmt word.at (act_view (act.If e body others)) ≡ if_of s (pair w (pair o (pair x (pair b l))))
-if_said s word e body others w o x b l hw k t m n =
-    let r : plain.stmt word.at (act_view (act.If e body others)) ≡ plain.stmt (token_of w).at (plain.choose (expression_of s (first x)) (block_of s b) (else_of s l)) = rw (act-If, hw, k, m, n) refl in
-    subst (λ (z : Parse). plain.stmt word.at (act_view (act.If e body others)) ≡ if_of s (pair w (pair o (pair z (pair b l))))) (sym t) r
+pub if_said : (s : List ℕ) (word : Lexeme) (e : Expr) (body : Vec Stmt Global) (others : Option (Vec Stmt Global)) (w o x b l : Parse) → word ≡ token_of w → expr_view e ≡ closed_of s x → stmts_of (map stmt_view body.items) ≡ block_of s b → else_view others ≡ else_of s l → plain.stmt word.at (act_view (act.If e body others)) ≡ if_of s (pair w (pair o (pair x (pair b l))))
+if_said s word e body others w o x b l hw k m n = rw (act-If, hw, k, m, n) refl

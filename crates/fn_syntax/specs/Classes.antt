@@ -1,18 +1,10 @@
 -- Which tokens are of a class, and whether one is next.
-use Rattle.std.specs.Prelude.{Bool, true, false, List, [], ◌∷◌}
-use Rattle.fn_tree.specs.Terminals.{is, is_literal, is_field_name, is_part, is_entry, is_comparison, is_bound_operator, is_additive, is_multiplicative, is_sign, is_builtin, is_lookup, is_change}
+use Rattle.std.specs.Prelude.{Bool, false, List, [], ◌∷◌}
+use Rattle.fn_tree.specs.Terminals.{is, is_literal, is_field_name, is_part, is_entry, is_comparison, is_bound_operator, is_additive, is_multiplicative, is_sign, is_suffix, is_builtin, is_lookup, is_change}
 use Rattle.fn_tree.specs.declared.lexeme.Lexeme.{Lexeme}
 use Rattle.fn_tree.specs.declared.lexeme.Terminal.{Terminal}
-use Rattle.fn_tree.specs.declared.lexeme.Terminal.TheVariants.{Mark as Punctuation}
-use Rattle.fn_tree.specs.declared.lexeme.Mark.TheVariants.{Dot, OpenBracket}
 use Rattle.fn_syntax.specs.declared.parser.class.Class.{Class}
 use Rattle.fn_syntax.specs.declared.parser.class.Class.TheVariants.{Only, Literal, FieldName, Part, Entry, Comparison, BoundOperator, Additive, Multiplicative, Sign, Suffix, Builtin, Lookup, Change}
-
--- what begins a suffix: a dot or a bracket
-abbrev pub begins_suffix : Terminal → Bool
-begins_suffix (Punctuation Dot) = true
-begins_suffix (Punctuation OpenBracket) = true
-begins_suffix t = false
 
 -- a token is of the class
 abbrev pub has : Class → Terminal → Bool
@@ -26,7 +18,7 @@ has BoundOperator t = is_bound_operator t
 has Additive t = is_additive t
 has Multiplicative t = is_multiplicative t
 has Sign t = is_sign t
-has Suffix t = begins_suffix t
+has Suffix t = is_suffix t
 has Builtin t = is_builtin t
 has Lookup t = is_lookup t
 has Change t = is_change t

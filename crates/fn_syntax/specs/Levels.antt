@@ -1,11 +1,13 @@
 -- The levels of operators, loosest first.
-use Rattle.std.specs.Prelude.{ℕ, Bool, List}
+use Rattle.std.specs.Prelude.{ℕ, List}
 use Rattle.fn_tree.specs.Grammar.{Parse, pair}
 use Rattle.fn_tree.specs.ParseTrees.{expression_of, ors_of, conjunction_of, ands_of, comparison_of, sum_of, addends_of, term_of, factors_of, unary_of}
 use Rattle.fn_tree.specs.Rules.{Rule, expression, conjunction, comparison, sum, term, unary}
 use Rattle.fn_tree.specs.SyntaxTree.{Expr}
-use Rattle.fn_tree.specs.Terminals.{is_or, is_and, is_additive, is_multiplicative}
-use Rattle.fn_tree.specs.declared.lexeme.Terminal.{Terminal}
+use Rattle.fn_tree.specs.declared.lexeme.Mark.TheVariants.{AndAnd, OrOr}
+use Rattle.fn_tree.specs.declared.lexeme.Terminal.TheVariants.{Mark as Punctuation}
+use Rattle.fn_syntax.specs.declared.parser.class.Class.{Class}
+use Rattle.fn_syntax.specs.declared.parser.class.Class.TheVariants.{Only, Additive, Multiplicative}
 use Rattle.fn_syntax.specs.declared.parser.expression.Level.{Level}
 use Rattle.fn_syntax.specs.declared.parser.expression.Level.TheVariants.{Or, And, Sum, Term}
 
@@ -24,11 +26,11 @@ operand_of Sum = term
 operand_of Term = unary
 
 -- its operators
-abbrev pub operates : Level → Terminal → Bool
-operates Or t = is_or t
-operates And t = is_and t
-operates Sum t = is_additive t
-operates Term t = is_multiplicative t
+abbrev pub operators_of : Level → Class
+operators_of Or = Only (Punctuation OrOr)
+operators_of And = Only (Punctuation AndAnd)
+operators_of Sum = Additive
+operators_of Term = Multiplicative
 
 -- what a parse says, of the level and of its operands
 abbrev pub tree_of : Level → List ℕ → Parse → Expr

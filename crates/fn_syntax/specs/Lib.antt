@@ -1,6 +1,7 @@
 pub mod Classes
 pub mod Declarations
 pub mod Descents
+pub mod FirstFaults
 pub mod Levels
 pub mod Means
 pub mod Numbers

@@ -1,8 +1,11 @@
 -- What the functions of the descent make of a parse.
-use Rattle.std.specs.Prelude.{◌≡◌, ℕ, Bool, true, false, List, [], ◌∷◌, map, Option, None, Some, Vec}
+use Rattle.std.specs.Prelude.{◌≡◌, ◌<◌, ℕ, Bool, true, false, List, [], ◌∷◌, map, Option, None, Some, Vec}
 use Rattle.std.specs.declared.alloc.Global.{Global}
+use Rattle.std.specs.Borrow.{Bor}
+use Rattle.std.specs.Option.{option_map}
 use Rattle.fn_tree.specs.Fronts.{Finds}
-use Rattle.fn_tree.specs.Grammar.{Prod, turns, seq, endless, rule, opt, Parse, leaf, none, pair, in_left, in_right}
+use Rattle.fn_tree.specs.Terminals.{is_sign}
+use Rattle.fn_tree.specs.Grammar.{Prod, token, turns, seq, up_to, endless, rule, opt, Parse, leaf, none, pair, in_left, in_right}
 use Rattle.fn_tree.specs.Language.{grammar, mark, word, closed_expression}
 use Rattle.fn_tree.specs.ParseTrees as tree
 use Rattle.fn_tree.specs.Rules.{bound}
@@ -17,11 +20,6 @@ use Rattle.fn_tree.specs.declared.lexeme.Mark.{Mark}
 use Rattle.fn_tree.specs.declared.lexeme.Mark.TheVariants.{OpenParen, CloseParen, CloseBracket, Comma, Semicolon}
 use Rattle.fn_tree.specs.declared.lexeme.Word.TheVariants.{Desc, Take}
 
--- the first of two parts
-abbrev pub first : Parse → Parse
-first (pair a b) = a
-first a = a
-
 -- the marks that close an expression
 abbrev pub closes : Mark → Bool
 closes CloseParen = true
@@ -33,9 +31,13 @@ closes m = false
 abbrev pub IsClosing : Mark → Type 0
 IsClosing m = closes m ≡ true
 
+-- a comma doesn't close a list
+abbrev pub IsListClosing : Mark → Type 0
+IsListClosing m = (closes m ≡ true) × (m ≡ Comma → ⊥)
+
 -- an expression and the mark that closes it
 abbrev pub IsClosed : List ℕ → Expr → Parse → Type 0
-IsClosed s e a = expr_view e ≡ tree.expression_of s (first a)
+IsClosed s e a = expr_view e ≡ tree.closed_of s a
 
 -- the names of a list
 abbrev pub names_of : List ℕ → Parse → List Named
@@ -51,18 +53,17 @@ abbrev pub bounds_view : Vec BoundExpr Global → Bounds
 bounds_view bs = bounds_of (map bound_view bs.items)
 
 abbrev pub limit_view : Option Expr → Limit
-limit_view None = plain.all_rows
-limit_view (Some e) = plain.up_to (expr_view e)
+limit_view l = limit_of (option_map expr_view l)
 
--- a field and its value
-abbrev pub IsEntry : List ℕ → Named × Expr → Parse → Type 0
-IsEntry s e (pair n (pair colon a)) = (e.0 ≡ tree.named_of s (tree.token_of n)) × (expr_view e.1 ≡ tree.expression_of s a)
-IsEntry s e a = ⊥
+-- a parse of a field and its value
+abbrev pub IsEntryOf : List ℕ → Named × plain.Expr → Parse → Type 0
+IsEntryOf s e (pair n (pair colon a)) = (e.0 ≡ tree.named_of s (tree.token_of n)) × (e.1 ≡ tree.expression_of s a)
+IsEntryOf s e a = ⊥
 
--- a field compared with a value
-abbrev pub bound_of : List ℕ → Parse → BoundView
-bound_of s (pair n (pair o a)) = (tree.named_of s (tree.token_of n), tree.compare_of (tree.token_of o).terminal, tree.expression_of s a)
-bound_of s a = (tree.named_of s (tree.token_of a), tree.compare_of (tree.token_of a).terminal, tree.missing)
+-- a parse of a field compared with a value
+abbrev pub IsBoundOf : List ℕ → BoundView → Parse → Type 0
+IsBoundOf s b (pair n (pair o a)) = b ≡ (tree.named_of s (tree.token_of n), tree.compare_of (tree.token_of o).terminal, tree.expression_of s a)
+IsBoundOf s b a = ⊥
 
 -- the bounds of a scan
 abbrev pub bounds : Prod
@@ -77,3 +78,8 @@ pub record FindsDescending (ts : List Lexeme) (desc : Bool) (rest : List Lexeme)
   pub parse : Parse
   pub finds : Finds grammar (opt (word Desc)) parse ts rest
   pub says : desc ≡ tree.is_there parse
+
+-- a sign is next and one more may stand; or no sign stands here
+abbrev pub IsSigned : ℕ → List Lexeme → Option (Lexeme × Bor (List Lexeme)) → Type 0
+IsSigned most ts None = Finds grammar (turns (up_to most) (token is_sign)) none ts ts
+IsSigned most ts (Some x) = (0 < most) × Finds grammar (token is_sign) (leaf x.0) ts x.1.now

@@ -242,7 +242,8 @@ fn begin_of(bytes: &[u8]) -> Begin
     }
 }
 
-/// The tokens of a text, whose cost is a pass over it.
+/// The tokens of a text, in one pass over it. Each name is compared with the reserved words, and each
+/// mark with the marks.
 pub(crate) fn lex(alloc: Global, text: &str) -> Result<Lexed, Memory>
     ensures lexemes { IfOk result (λ l. l.lexemes.items ≡ (lexemes_of text.now).lexemes) }
     ensures bad { IfOk result (λ l. l.bad ≡ (lexemes_of text.now).bad) }

@@ -2,9 +2,13 @@
 //! first fault of bytes that are no such text.
 #![tactic(auto)]
 
+mod laws;
 mod lexer;
+mod module_text;
 mod nesting;
 mod number;
+#[cfg(test)]
+mod parse_tests;
 mod parser;
 #[cfg(test)]
 mod tests;
@@ -13,4 +17,6 @@ mod utf8;
 mod value;
 
 pub use fn_tree::{SyntaxFault, Why};
+pub use laws::one_fault;
+pub use module_text::parse;
 pub use token::{Token, TokenKind, tokens};

@@ -10,3 +10,6 @@ mod primary;
 mod read;
 mod statement;
 mod whole;
+
+pub(crate) use cursor::Stop;
+pub(crate) use whole::module;

@@ -32,7 +32,7 @@ choice_fits : (test : Bool) (x y : Begin) (k : ℕ) → (test ≡ true → Fits 
 choice_fits true x y k a b = a refl
 choice_fits false x y k a b = b refl
 
-run_some : (p : ℕ → Bool) (b : ℕ) (bs : List ℕ) → p b ≡ true → 0 < prefix_len p (b ∷ bs)
+pub run_some : (p : ℕ → Bool) (b : ℕ) (bs : List ℕ) → p b ≡ true → 0 < prefix_len p (b ∷ bs)
 run_some p b bs h = rw h (omega arith)
 
 name_goes_on : (lower upper digit mark : Bool) → ((upper || lower) || mark) ≡ true → (((digit || upper) || lower) || mark) ≡ true
@@ -45,10 +45,13 @@ name_goes_on false true false m h = refl
 name_goes_on false false true m h = refl
 name_goes_on false false false m h = h
 
+pub begins_name_goes_on : (b : ℕ) → begins_name b ≡ true → goes_on_name b ≡ true
+begins_name_goes_on b h = name_goes_on (is_in_range 97 122 b) (is_in_range 65 90 b) (is_in_range 48 57 b) (eqb b 95) h
+
 name_fits : (b : ℕ) (bs : List ℕ) → begins_name b ≡ true → Fits (name_begin (b ∷ bs)) (length (b ∷ bs))
 unfolding name_begin
 name_fits b bs h =
-    (run_some goes_on_name b bs (name_goes_on (is_in_range 97 122 b) (is_in_range 65 90 b) (is_in_range 48 57 b) (eqb b 95) h), prefix_len-le-length goes_on_name (b ∷ bs))
+    (run_some goes_on_name b bs (begins_name_goes_on b h), prefix_len-le-length goes_on_name (b ∷ bs))
 
 integer_fits : (b : ℕ) (bs : List ℕ) → is_ascii_digit b ≡ true → Fits (integer_begin (b ∷ bs)) (length (b ∷ bs))
 unfolding integer_begin
@@ -108,7 +111,7 @@ begin_with bs needle h =
     let e : length needle ≡ length (take (length needle) bs) = ap length ((bytes_eq-Decides needle (take (length needle) bs)).0 h) in
     omega (arith, length-take (length needle) bs)
 
-mark_some : (m : Mark) → 0 < length (mark_text m)
+pub mark_some : (m : Mark) → 0 < length (mark_text m)
 mark_some OpenBrace = lit< tt
 mark_some _ = lit< tt
 

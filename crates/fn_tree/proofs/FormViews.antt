@@ -1,6 +1,7 @@
 -- The plain form of each form of an expression, and the plain statement of each statement.
 use Rattle.std.proofs.Common.{rules, ◌≡◌, ℤ, Bool, true, false, List, ℕ, map, Option, Some, None, Vec, ap, sym, ◌∙◌}
 use Rattle.std.specs.declared.alloc.Global.{Global}
+use Rattle.fn_tree.specs.ParseTrees.{at_of}
 use Rattle.fn_tree.specs.SyntaxTree as plain
 use Rattle.fn_tree.specs.SyntaxViews.{expr_view, form_view, bound_view, exprs_of, entries_of, bounds_of, limit_of, stmt_view, act_view, stmts_of, else_of, else_view}
 use Rattle.fn_tree.specs.declared.syntax.BinaryOp.{BinaryOp}
@@ -9,7 +10,7 @@ use Rattle.fn_tree.specs.declared.syntax.Builtin.{Builtin}
 use Rattle.fn_tree.specs.declared.syntax.Expr.{Expr}
 use Rattle.fn_tree.specs.declared.syntax.ExprForm.{ExprForm}
 use Rattle.fn_tree.specs.declared.syntax.ExprForm.TheVariants as form
-use Rattle.fn_tree.specs.declared.syntax.ExprForm.TheFolds.{fold-roll-ExprForm}
+use Rattle.fn_tree.specs.declared.syntax.ExprForm.TheFolds.{fold-roll-ExprForm, fold_out-Expr}
 use Rattle.fn_tree.specs.SyntaxViews.{BoundView, form_step, bound_step, expr_step, act_step, stmt_step}
 use Rattle.std.specs.Option.{option_map}
 use Rattle.fn_tree.specs.declared.syntax.Stmt.{Stmt}
@@ -109,3 +110,7 @@ act-Return e = ap act_view (sym (act.rolls-Return e)) ∙ fold-roll-StmtForm pla
 
 pub act-Throw : (e : Expr) → act_view (act.Throw e) ≡ plain.throw (expr_view e)
 act-Throw e = ap act_view (sym (act.rolls-Throw e)) ∙ fold-roll-StmtForm plain.Act plain.Stmt act_step stmt_step _
+
+-- an expression's view begins where it begins
+pub view_at : (e : Expr) → at_of (expr_view e) ≡ e.at
+view_at e = ap at_of (fold_out-Expr plain.Form BoundView plain.Expr form_step bound_step expr_step e)

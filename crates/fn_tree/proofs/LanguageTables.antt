@@ -3,11 +3,11 @@ use Rattle.std.proofs.Common.{ℕ, ◌≡◌, Bool, true, false, refl}
 use Rattle.fn_tree.specs.Grammar.{Prod, token, empty, seq, alt, turns, rule, up_to, endless}
 use Rattle.fn_tree.specs.Language.{grammar}
 use Rattle.fn_tree.specs.Rules.{Rule, whole_module, table, index, function, path, parameters, block, statement, let_statement, if_statement, for_statement, return_statement, throw_statement, assignment, evaluation, expression, conjunction, comparison, sum, term, unary, postfix, suffix, primary, named, builtin_call, array, object, entry, group, scan, bound, count, lookup, moment, insertion, change}
-use Rattle.fn_tree.specs.Terminals.{is, is_field_name, is_part, is_entry, is_comparison, is_or, is_and, is_additive, is_multiplicative, is_sign, is_builtin, is_lookup, is_change}
+use Rattle.fn_tree.specs.Terminals.{is, is_field_name, is_part, is_entry, is_comparison, is_or, is_and, is_additive, is_multiplicative, is_sign, is_suffix, is_builtin, is_lookup, is_change}
 use Rattle.fn_tree.specs.declared.lexeme.Terminal.{Terminal}
 use Rattle.fn_tree.specs.declared.lexeme.Terminal.TheVariants.{Name, Integer, Str, Word as ReservedWord, Mark as Punctuation}
 use Rattle.fn_tree.specs.declared.lexeme.Word.TheVariants.{Table, Index, Query, Mutation, Helper, Let, If, Else, For, In, Return, Throw, Scan, Desc, Take, Count, Insert, Now}
-use Rattle.fn_tree.specs.declared.lexeme.Mark.TheVariants.{OpenBrace, OpenParen, OpenBracket, Dot}
+use Rattle.fn_tree.specs.declared.lexeme.Mark.TheVariants.{OpenBrace, OpenParen, OpenBracket}
 use Rattle.fn_tree.proofs.Tokens.{or, no, each, at_each, implied}
 use Rattle.fn_tree.proofs.Tables.{Tables, Sound, nil, starts, follows}
 use Rattle.fn_tree.proofs.Follows.{single}
@@ -58,13 +58,8 @@ goes_on_primary (ReservedWord Desc) = true
 goes_on_primary (ReservedWord Take) = true
 goes_on_primary k = false
 
-abbrev pub begins_suffix : Terminal → Bool
-begins_suffix (Punctuation Dot) = true
-begins_suffix (Punctuation OpenBracket) = true
-begins_suffix k = false
-
 abbrev pub goes_on_unary : Terminal → Bool
-goes_on_unary k = or (begins_suffix k) (goes_on_primary k)
+goes_on_unary k = or (is_suffix k) (goes_on_primary k)
 
 abbrev pub goes_on_term : Terminal → Bool
 goes_on_term k = or (is_multiplicative k) (goes_on_unary k)
@@ -111,7 +106,7 @@ firsts sum k = begins_expression k
 firsts term k = begins_expression k
 firsts unary k = begins_expression k
 firsts postfix k = begins_primary k
-firsts suffix k = begins_suffix k
+firsts suffix k = is_suffix k
 firsts primary k = begins_primary k
 firsts named k = is Name k
 firsts builtin_call k = is_builtin k

@@ -1,12 +1,17 @@
+pub mod AsciiEnds
 pub mod Begins
 pub mod Follows
 pub mod FormViews
+pub mod Frames
 pub mod Fronts
 pub mod Language
 pub mod LanguageTables
 pub mod Legal
+pub mod ModuleTexts
 pub mod OriginOfIds
 pub mod Places
+pub mod StringsSay
 pub mod Tables
+pub mod TokenTexts
 pub mod Tokens
 pub mod TokensRead

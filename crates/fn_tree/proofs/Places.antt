@@ -1,7 +1,8 @@
--- The tokens of a text stand apart in it.
-use Rattle.std.proofs.Common.{◌≡◌, ℕ, zero, suc, ◌+◌, ◌-◌, ◌≤◌, List, [], ◌∷◌, length, arith}
+-- The tokens of a text stand apart in it, before the place at which no token begins.
+use Rattle.std.proofs.Common.{◌≡◌, ℕ, zero, suc, ◌+◌, ◌-◌, ◌<◌, ◌≤◌, List, [], ◌∷◌, length, arith}
+use Rattle.std.specs.Prelude.{Some}
 use Rattle.fn_tree.specs.Lexemes.{begins, begin_len, Lexed, put_begin, lexed_from, lexemes_of}
-use Rattle.fn_tree.specs.LexemeLaws.{StandApart, TokensStandApart}
+use Rattle.fn_tree.specs.LexemeLaws.{StandApart, TokensStandApart, BadComesAfter}
 use Rattle.fn_tree.specs.declared.begin.Begin.{Begin}
 use Rattle.fn_tree.specs.declared.begin.Begin.TheVariants.{Gap, Token, Bad}
 use Rattle.fn_tree.specs.declared.lexeme.Lexeme.{Lexeme}
@@ -48,3 +49,39 @@ apart_from zero at (b ∷ bs) h =
 pub tokens_stand_apart : TokensStandApart
 unfolding lexemes_of
 tokens_stand_apart text = let a = apart_from 0 0 text (omega arith) in let z : 0 + length text ≡ length text = omega arith in rw z at a
+
+-- ---- before the first bad place
+
+-- the tokens stand apart from one place up to the bad one, which is before another
+abbrev BeforeBad : ℕ → ℕ → ℕ → List Lexeme → Type 0
+BeforeBad from bad to xs = StandApart from bad xs × (bad < to)
+
+some_is : (a b : ℕ) → Some a ≡ Some b → a ≡ b
+some_is a b e = cc
+
+put_bad : (x : Begin) (at k bad : ℕ) (after : Lexed) → Fits x (suc k) → (put_begin x at after).bad ≡ Some bad
+    → (after.bad ≡ Some bad → BeforeBad (at + 1 + (begin_len x - 1)) bad (at + 1 + k) after.lexemes) → BeforeBad at bad (at + suc k) (put_begin x at after).lexemes
+put_bad (Gap n) at k bad after f e a =
+    let h = a e in let s : at ≤ at + 1 + (n - 1) = omega arith in (from_before at (at + 1 + (n - 1)) bad after.lexemes s h.0, omega (arith, h.1))
+put_bad (Token t n) at k bad after f e a =
+    let h = a e in let g : at + 1 + (n - 1) ≡ at + n = omega (arith, f.0) in
+    ((omega arith, f.0, rw g at h.0), omega (arith, h.1))
+put_bad Bad at k bad after f e a = let h : at ≡ bad = some_is at bad e in (omega arith, omega arith)
+
+bad_from : (passed at bad : ℕ) (bs : List ℕ) → passed ≤ length bs → (lexed_from passed at bs).bad ≡ Some bad → BeforeBad (at + passed) bad (at + length bs) (lexed_from passed at bs).lexemes
+bad_from passed at bad [] h e = absurd (cc)
+bad_from (suc passed) at bad (b ∷ bs) h e =
+    let g : at + 1 + passed ≡ at + suc passed = omega arith in
+    let a : BeforeBad (at + 1 + passed) bad (at + 1 + length bs) (lexed_from passed (at + 1) bs).lexemes = bad_from passed (at + 1) bad bs (omega arith) e in
+    (rw g at a.0, omega (arith, a.1))
+bad_from zero at bad (b ∷ bs) h e =
+    let x : Begin = begins (b ∷ bs) in
+    let z : at + 0 ≡ at = omega arith in
+    rw z (put_bad x at (length bs) bad (lexed_from (begin_len x - 1) (at + 1) bs) (begins_fits b bs) e
+    (λ k. bad_from (begin_len x - 1) (at + 1) bad bs (passed_fits x (length bs) (begins_fits b bs)) k))
+
+pub bad_comes_after : BadComesAfter
+unfolding lexemes_of
+bad_comes_after text bad e =
+    let a : BeforeBad (0 + 0) bad (0 + length text) (lexed_from 0 0 text).lexemes = bad_from 0 0 bad text (omega arith) e in
+    (a.0, omega (arith, a.1))

@@ -10,6 +10,7 @@ pub mod LexemeExamples
 pub mod LexemeLaws
 pub mod LexemeValues
 pub mod Lexemes
+pub mod ModuleLaws
 pub mod ModuleTexts
 pub mod Nesting
 pub mod ParseTrees

@@ -203,7 +203,7 @@ abbrev mutual
   -- a field by its name, or an item
   pub suffix_of : List ℕ → Expr → Parse → Expr
   suffix_of s e (in_left (pair d n)) = expr (at_of e) (field e (named_of s (token_of n)))
-  suffix_of s e (in_right (pair o (pair a close))) = expr (at_of e) (item e (expression_of s a))
+  suffix_of s e (in_right (pair o a)) = expr (at_of e) (item e (closed_of s a))
   suffix_of s e a = missing
 
   pub primary_of : List ℕ → Parse → Expr
@@ -230,15 +230,15 @@ abbrev mutual
   builtin_call_of s a = missing
 
   pub array_of : List ℕ → Parse → Expr
-  array_of s (pair o (pair a close)) = expr (token_of o).at (items (maybe_exprs_of s a))
+  array_of s (pair o a) = expr (token_of o).at (items (closed_exprs_of s a))
   array_of s a = missing
 
   pub object_of : List ℕ → Parse → Expr
-  object_of s (pair o (pair a close)) = expr (token_of o).at (entries (maybe_entries_of s a))
+  object_of s (pair o a) = expr (token_of o).at (entries (closed_entries_of s a))
   object_of s a = missing
 
   pub group_of : List ℕ → Parse → Expr
-  group_of s (pair o (pair a close)) = expr (token_of o).at (group (expression_of s a))
+  group_of s (pair o a) = expr (token_of o).at (group (closed_of s a))
   group_of s a = missing
 
   pub scan_of : List ℕ → Parse → Expr
@@ -246,20 +246,33 @@ abbrev mutual
   scan_of s a = missing
 
   pub lookup_of : List ℕ → Parse → Expr
-  lookup_of s (pair w (pair o (pair a close))) = expr (token_of w).at (lookup_as (token_of w).terminal (expression_of s a))
+  lookup_of s (pair w (pair o a)) = expr (token_of w).at (lookup_as (token_of w).terminal (closed_of s a))
   lookup_of s a = missing
 
   pub insertion_of : List ℕ → Parse → Expr
-  insertion_of s (pair w (pair o (pair t (pair comma (pair a close))))) = expr (token_of w).at (insert (named_of s (token_of t)) (expression_of s a))
+  insertion_of s (pair w (pair o (pair t (pair comma a)))) = expr (token_of w).at (insert (named_of s (token_of t)) (closed_of s a))
   insertion_of s a = missing
 
   pub change_of : List ℕ → Parse → Expr
-  change_of s (pair w (pair o (pair (pair a comma) (pair b close)))) = expr (token_of w).at (change_as (token_of w).terminal (expression_of s a) (expression_of s b))
+  change_of s (pair w (pair o (pair a b))) = expr (token_of w).at (change_as (token_of w).terminal (closed_of s a) (closed_of s b))
   change_of s a = missing
+
+  -- an expression and the mark that closes it, expressions and theirs, entries and theirs
+  pub closed_of : List ℕ → Parse → Expr
+  closed_of s (pair a close) = expression_of s a
+  closed_of s a = missing
+
+  pub closed_exprs_of : List ℕ → Parse → Exprs
+  closed_exprs_of s (pair a close) = maybe_exprs_of s a
+  closed_exprs_of s a = no_exprs
+
+  pub closed_entries_of : List ℕ → Parse → Entries
+  closed_entries_of s (pair a close) = maybe_entries_of s a
+  closed_entries_of s a = no_entries
 
   -- a variable, or a call where arguments follow
   pub variable_or_call_of : List ℕ → List ℕ → Parse → Form
-  variable_or_call_of s n (in_left (pair o (pair a close))) = call n (maybe_exprs_of s a)
+  variable_or_call_of s n (in_left (pair o a)) = call n (closed_exprs_of s a)
   variable_or_call_of s n a = variable n
 
   pub maybe_exprs_of : List ℕ → Parse → Exprs
@@ -291,7 +304,7 @@ abbrev mutual
   bounds_of s a = no_bounds
 
   pub limit_of : List ℕ → Parse → Limit
-  limit_of s (in_left (pair w (pair o (pair a close)))) = up_to (expression_of s a)
+  limit_of s (in_left (pair w (pair o a))) = up_to (closed_of s a)
   limit_of s a = all_rows
 
 -- ---- statements
@@ -299,46 +312,50 @@ abbrev mutual
 abbrev pub no_statement : Stmt
 no_statement = stmt 0 (evaluate missing)
 
+abbrev pub let_of : List ℕ → Parse → Stmt
+let_of s (pair w (pair n (pair q a))) = stmt (token_of w).at (declare (named_of s (token_of n)) (closed_of s a))
+let_of s a = no_statement
+
+abbrev pub return_of : List ℕ → Parse → Stmt
+return_of s (pair w a) = stmt (token_of w).at (give_back (closed_of s a))
+return_of s a = no_statement
+
+abbrev pub throw_of : List ℕ → Parse → Stmt
+throw_of s (pair w a) = stmt (token_of w).at (throw (closed_of s a))
+throw_of s a = no_statement
+
+abbrev pub assignment_of : List ℕ → Parse → Stmt
+assignment_of s (pair n (pair q a)) = stmt (token_of n).at (assign (named_of s (token_of n)) (closed_of s a))
+assignment_of s a = no_statement
+
+abbrev pub evaluation_of : List ℕ → Parse → Stmt
+evaluation_of s a = stmt (at_of (closed_of s a)) (evaluate (closed_of s a))
+
 abbrev mutual
   pub statements_of : List ℕ → Parse → Stmts
   statements_of s (pair a more) = then_stmt (statement_of s a) (statements_of s more)
   statements_of s a = no_stmts
 
   pub block_of : List ℕ → Parse → Stmts
-  block_of s (pair o (pair a close)) = statements_of s a
+  block_of s (pair o a) = closed_statements_of s a
   block_of s a = no_stmts
+
+  -- statements and the brace that closes them
+  pub closed_statements_of : List ℕ → Parse → Stmts
+  closed_statements_of s (pair a close) = statements_of s a
+  closed_statements_of s a = no_stmts
 
   pub else_of : List ℕ → Parse → Else
   else_of s (in_left (pair w a)) = or_else (block_of s a)
   else_of s a = no_else
 
-  pub let_of : List ℕ → Parse → Stmt
-  let_of s (pair w (pair n (pair q (pair a end)))) = stmt (token_of w).at (declare (named_of s (token_of n)) (expression_of s a))
-  let_of s a = no_statement
-
   pub if_of : List ℕ → Parse → Stmt
-  if_of s (pair w (pair o (pair (pair a close) (pair b e)))) = stmt (token_of w).at (choose (expression_of s a) (block_of s b) (else_of s e))
+  if_of s (pair w (pair o (pair a (pair b e)))) = stmt (token_of w).at (choose (closed_of s a) (block_of s b) (else_of s e))
   if_of s a = no_statement
 
   pub for_of : List ℕ → Parse → Stmt
-  for_of s (pair w (pair o (pair n (pair i (pair (pair a close) b))))) = stmt (token_of w).at (each (named_of s (token_of n)) (expression_of s a) (block_of s b))
+  for_of s (pair w (pair o (pair n (pair i (pair a b))))) = stmt (token_of w).at (each (named_of s (token_of n)) (closed_of s a) (block_of s b))
   for_of s a = no_statement
-
-  pub return_of : List ℕ → Parse → Stmt
-  return_of s (pair w (pair a end)) = stmt (token_of w).at (give_back (expression_of s a))
-  return_of s a = no_statement
-
-  pub throw_of : List ℕ → Parse → Stmt
-  throw_of s (pair w (pair a end)) = stmt (token_of w).at (throw (expression_of s a))
-  throw_of s a = no_statement
-
-  pub assignment_of : List ℕ → Parse → Stmt
-  assignment_of s (pair n (pair q (pair a end))) = stmt (token_of n).at (assign (named_of s (token_of n)) (expression_of s a))
-  assignment_of s a = no_statement
-
-  pub evaluation_of : List ℕ → Parse → Stmt
-  evaluation_of s (pair a end) = stmt (at_of (expression_of s a)) (evaluate (expression_of s a))
-  evaluation_of s a = no_statement
 
   pub statement_of : List ℕ → Parse → Stmt
   statement_of s (in_left a) = let_of s a

@@ -177,3 +177,9 @@ abbrev pub is_change : Terminal → Bool
 is_change (ReservedWord Patch) = true
 is_change (ReservedWord Replace) = true
 is_change t = false
+
+-- what begins a field or an item behind an expression: a dot or a bracket
+abbrev pub is_suffix : Terminal → Bool
+is_suffix (Punctuation Dot) = true
+is_suffix (Punctuation OpenBracket) = true
+is_suffix t = false

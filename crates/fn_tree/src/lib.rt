@@ -20,9 +20,11 @@ mod tests;
 pub use begin::Begin;
 pub use entry::{Call, Entry, Reply};
 pub use fault::{SyntaxFault, Why};
-pub use laws::{legal_histories, tokens_of_texts, worked_histories, worked_tokens};
+pub use laws::{
+    at_most_one_module, legal_histories, tokens_of_texts, worked_histories, worked_tokens,
+};
 pub use lexeme::{Lexeme, Mark, Terminal, Word};
 pub use syntax::{
-    BinaryOp, BoundExpr, Builtin, CompareOp, Expr, ExprForm, Function, IndexDecl, Kind, Module, Named,
-    Stmt, StmtForm, TableDecl, UnaryOp,
+    BinaryOp, BoundExpr, Builtin, CompareOp, Expr, ExprForm, Function, IndexDecl, Kind, Module,
+    Named, Stmt, StmtForm, TableDecl, UnaryOp,
 };

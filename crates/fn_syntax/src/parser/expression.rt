@@ -1,5 +1,5 @@
 //! Expressions: operators by their levels, signs, and what stands behind a primary expression.
-ghost use Rattle.std.specs.Prelude.{◌≡◌, ◌<◌, ◌≤◌, length, IfOk};
+ghost use Rattle.std.specs.Prelude.{◌≡◌, ◌<◌, ◌≤◌, length, IfOk, IfSome};
 ghost use Rattle.fn_tree.specs.Grammar.Prod.{rule, token, turns, seq};
 ghost use Rattle.fn_tree.specs.Grammar.Bound.{up_to};
 ghost use Rattle.fn_tree.specs.Language.{closed_expression};
@@ -8,8 +8,8 @@ ghost use Rattle.fn_tree.specs.Rules as rules;
 ghost use Rattle.fn_tree.specs.SyntaxViews.{expr_view, form_view};
 ghost use Rattle.fn_tree.specs.Terminals.{is_sign};
 ghost use Rattle.fn_syntax.specs.Descents.{IsDescent};
-ghost use Rattle.fn_syntax.specs.Levels.{rule_of, operand_of, tree_of, operand_tree_of};
-ghost use Rattle.fn_syntax.specs.Means.{IsClosed, IsClosing};
+ghost use Rattle.fn_syntax.specs.Levels.{rule_of, operand_of, operators_of, tree_of, operand_tree_of};
+ghost use Rattle.fn_syntax.specs.Means.{IsClosed, IsClosing, IsSigned};
 
 use crate::parser::class::{Class, operator_of, sign_of};
 use crate::parser::cursor::{Parsed, accept, accept_mark, expect_mark, next_is};
@@ -29,7 +29,9 @@ pub(crate) enum Level {
 }
 
 impl Level {
-    fn operators(self) -> Class {
+    fn operators(self) -> Class
+        ensures { result ≡ operators_of self }
+    {
         match self {
             Level::Or => Class::Only(Terminal::Mark(Mark::OrOr)),
             Level::And => Class::Only(Terminal::Mark(Mark::AndAnd)),
@@ -104,20 +106,29 @@ fn comparison<'t>(alloc: Global, text: &str, tokens: &'t [Lexeme]) -> Parsed<'t,
     Ok((joined(alloc, left, operator, right)?, rest))
 }
 
+// A sign, where one is next and one more may stand.
+fn next_sign(tokens: &[Lexeme], most: u8) -> Option<(Lexeme, &[Lexeme])>
+    ensures is { IsSigned most tokens.now result }
+    ensures shorter { IfSome result (λ x. length x.1.now < length tokens.now) }
+{
+    if most == 0 {
+        return None;
+    }
+    accept(tokens, Class::Sign)
+}
+
 // Signs, at most so many, before an operand.
 #[cycle(expressions)]
 fn unary<'t>(alloc: Global, text: &str, tokens: &'t [Lexeme], most: u8) -> Parsed<'t, Expr>
     ensures is { IsDescent (seq (turns (up_to most) (token is_sign)) (rule rules.postfix)) (λ e a. expr_view e ≡ tree.unary_of text.now a) tokens.now result }
     ensures shorter { IfOk result (λ x. length x.1.now < length tokens.now) }
 {
-    if most > 0
-        && let Some((sign, after)) = accept(tokens, Class::Sign)
-    {
-        let (value, rest) = unary(alloc, text, after, most - 1)?;
-        let form = ExprForm::Unary(sign_of(sign.terminal), value);
-        return Ok((Expr::new(alloc, sign.at, form)?, rest));
-    }
-    postfix(alloc, text, tokens)
+    let Some((sign, after)) = next_sign(tokens, most) else {
+        return postfix(alloc, text, tokens);
+    };
+    let (value, rest) = unary(alloc, text, after, most - 1)?;
+    let form = ExprForm::Unary(sign_of(sign.terminal), value);
+    Ok((Expr::new(alloc, sign.at, form)?, rest))
 }
 
 // A primary expression and at most 16 fields and items behind it.

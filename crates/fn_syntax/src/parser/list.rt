@@ -47,8 +47,8 @@ pub(crate) fn expressions<'t>(
     tokens: &'t [Lexeme],
     close: Mark,
 ) -> Parsed<'t, Vec<Expr>>
-    requires { means.IsClosing close }
-    ensures is { IsDescent (expressions close) (λ es a. means.exprs_view es ≡ tree.maybe_exprs_of text.now (means.first a)) tokens.now result }
+    requires { means.IsListClosing close }
+    ensures is { IsDescent (expressions close) (λ es a. means.exprs_view es ≡ tree.closed_exprs_of text.now a) tokens.now result }
     ensures shorter { IfOk result (λ x. length x.1.now < length tokens.now) }
 {
     if let Some((_, rest)) = accept_mark(tokens, close) {
@@ -87,7 +87,7 @@ pub(crate) fn entries<'t>(
     text: &str,
     tokens: &'t [Lexeme],
 ) -> Parsed<'t, Vec<(Named, Expr)>>
-    ensures is { IsDescent (closed Mark.CloseBrace (opt (commas (rule rules.entry)))) (λ es a. means.entries_view es ≡ tree.maybe_entries_of text.now (means.first a)) tokens.now result }
+    ensures is { IsDescent (closed Mark.CloseBrace (opt (commas (rule rules.entry)))) (λ es a. means.entries_view es ≡ tree.closed_entries_of text.now a) tokens.now result }
     ensures shorter { IfOk result (λ x. length x.1.now < length tokens.now) }
 {
     if let Some((_, rest)) = accept_mark(tokens, Mark::CloseBrace) {
@@ -117,7 +117,7 @@ fn entry_list<'t>(alloc: Global, text: &str, tokens: &'t [Lexeme]) -> Parsed<'t,
 // A field and its value.
 #[cycle(expressions)]
 fn entry<'t>(alloc: Global, text: &str, tokens: &'t [Lexeme]) -> Parsed<'t, (Named, Expr)>
-    ensures is { IsDescent (rule rules.entry) (λ e a. means.IsEntry text.now e a) tokens.now result }
+    ensures is { IsDescent (rule rules.entry) (λ e a. means.IsEntryOf text.now (e.0, expr_view e.1) a) tokens.now result }
     ensures shorter { IfOk result (λ x. length x.1.now < length tokens.now) }
 {
     let (name, rest) = expect_named(alloc, text, tokens, Class::FieldName)?;

@@ -60,7 +60,7 @@ fn bounds<'t>(alloc: Global, text: &str, tokens: &'t [Lexeme]) -> Parsed<'t, Vec
 // A field compared with a value.
 #[cycle(expressions)]
 fn bound<'t>(alloc: Global, text: &str, tokens: &'t [Lexeme]) -> Parsed<'t, BoundExpr>
-    ensures is { IsDescent (rule rules.bound) (λ b a. bound_view b ≡ means.bound_of text.now a) tokens.now result }
+    ensures is { IsDescent (rule rules.bound) (λ b a. means.IsBoundOf text.now (bound_view b) a) tokens.now result }
     ensures shorter { IfOk result (λ x. length x.1.now < length tokens.now) }
 {
     let (field, rest) = expect_named(alloc, text, tokens, Class::FieldName)?;

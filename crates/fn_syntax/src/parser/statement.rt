@@ -5,7 +5,6 @@ ghost use Rattle.fn_tree.specs.ParseTrees as tree;
 ghost use Rattle.fn_tree.specs.Rules as rules;
 ghost use Rattle.fn_tree.specs.SyntaxViews.{stmt_view, stmts_of, else_view};
 ghost use Rattle.fn_syntax.specs.Descents.{IsDescent};
-ghost use Rattle.fn_syntax.specs.Means as means;
 ghost use Rattle.fn_syntax.specs.Statements as statements;
 
 use crate::parser::class::Class;
@@ -41,7 +40,7 @@ pub(crate) fn block<'t>(alloc: Global, text: &str, tokens: &'t [Lexeme]) -> Pars
 // The statements of a block and the brace that closes it.
 #[cycle(statements)]
 fn block_rest<'t>(alloc: Global, text: &str, tokens: &'t [Lexeme]) -> Parsed<'t, Vec<Stmt>>
-    ensures is { IsDescent statements.block_rest (λ b a. stmts_of (map stmt_view b.items) ≡ tree.statements_of text.now (means.first a)) tokens.now result }
+    ensures is { IsDescent statements.block_rest (λ b a. stmts_of (map stmt_view b.items) ≡ tree.closed_statements_of text.now a) tokens.now result }
     ensures shorter { IfOk result (λ x. length x.1.now < length tokens.now) }
 {
     let mut body = Seq::new(alloc);

@@ -11,8 +11,8 @@ use Rattle.fn_syntax.specs.declared.parser.statement.StatementKind.TheVariants.{
 use Rattle.fn_syntax.proofs.Descent.{makes_call, makes_in, then, misses, left_out, not_shorter}
 use Rattle.fn_syntax.proofs.Answering.{missed, the_token}
 use Rattle.fn_syntax.proofs.Choices.{passed, chosen, none_chosen}
-use Rattle.fn_syntax.proofs.Parts.{two_parts, no_turn, one_turn, misses_turn, turns_over, shut_next, shut_here, apart}
-use Rattle.fn_syntax.proofs.Said.{block_says, views_more, says_all, statements_said, for_said, if_said}
+use Rattle.fn_syntax.proofs.Parts.{no_turn, one_turn, misses_turn, turns_over, shut_next, shut_here, apart}
+use Rattle.fn_syntax.proofs.Said.{views_more, says_all, statements_said, for_said, if_said}
 use Rattle.fn_syntax.proofs.parser.statement.+statements.Goals as goal
 
 pub block-returns-in_err-rest-clause-is : goal.block-returns-in_err-rest-clause-is
@@ -21,7 +21,7 @@ block-returns-in_err-rest-clause-is t c =
 
 pub block-returns-clause-is : goal.block-returns-clause-is
 block-returns-clause-is t c =
-    passed _ _ c.block_rest.result (then (makes_call rule.block) (clear _ _ refl refl) c.in_ok-rest.ensures.is.finds) (λ b a e. e ∙ block_says _ _ a) c.block_rest.ensures.is
+    passed _ _ c.block_rest.result (then (makes_call rule.block) (clear _ _ refl refl) c.in_ok-rest.ensures.is.finds) (λ b a e. e) c.block_rest.ensures.is
 
 pub block_rest-loop-alloc-init : goal.block_rest-loop-alloc-init
 block_rest-loop-alloc-init t c =
@@ -45,7 +45,7 @@ block_rest-returns-clause-is t c =
     record {
       parse = pair (c.loop-alloc.invariant.0.make none) c.in_ok-rest.ensures.is.parse;
       finds = seq_finds (clear _ _ refl refl) (turns_over c.loop-alloc.invariant.0 (shut_here (Punctuation CloseBrace) _ refl (apart _ _ refl) (sym c.loop-alloc-test.ensures))) c.in_ok-rest.ensures.is.finds;
-      says = statements_said _ _ _ (c.loop-alloc.invariant.0.make none) c.into_vec.ensures (says_all _ [] _ c.loop-alloc.invariant.0.make c.loop-alloc.invariant.0.says);
+      says = statements_said _ _ _ (c.loop-alloc.invariant.0.make none) c.in_ok-rest.ensures.is.parse c.into_vec.ensures (says_all _ [] _ c.loop-alloc.invariant.0.make c.loop-alloc.invariant.0.says);
     }
 
 pub for_statement-returns-in_err-word-clause-is : goal.for_statement-returns-in_err-word-clause-is
@@ -77,7 +77,7 @@ for_statement-returns-clause-is t c =
     record {
       parse = pair c.in_ok-word.ensures.is.parse (pair c.in_ok-rest.ensures.is.parse (pair c.in_ok-name.ensures.is.parse (pair c.in_ok-rest-2.ensures.is.parse (pair c.in_ok-items.ensures.is.parse c.in_ok-body.ensures.is.parse))));
       finds = (then (then (then (then (then (makes_call rule.for_statement) (clear _ _ refl refl) c.in_ok-word.ensures.is.finds) (clear _ _ refl refl) c.in_ok-rest.ensures.is.finds) (clear _ _ refl refl) c.in_ok-name.ensures.is.finds) (clear _ _ refl refl) c.in_ok-rest-2.ensures.is.finds) (clear _ _ refl refl) c.in_ok-items.ensures.is.finds).found _ _ c.in_ok-body.ensures.is.finds;
-      says = c.new.ensures ∙ for_said _ _ _ _ _ c.in_ok-word.ensures.is.parse c.in_ok-rest.ensures.is.parse c.in_ok-name.ensures.is.parse c.in_ok-rest-2.ensures.is.parse c.in_ok-items.ensures.is.parse c.in_ok-body.ensures.is.parse (the_token c.in_ok-word.ensures.is) c.in_ok-name.ensures.is.says c.in_ok-items.ensures.is.says (two_parts c.in_ok-items.ensures.is.finds.takes) c.in_ok-body.ensures.is.says;
+      says = c.new.ensures ∙ for_said _ _ _ _ _ c.in_ok-word.ensures.is.parse c.in_ok-rest.ensures.is.parse c.in_ok-name.ensures.is.parse c.in_ok-rest-2.ensures.is.parse c.in_ok-items.ensures.is.parse c.in_ok-body.ensures.is.parse (the_token c.in_ok-word.ensures.is) c.in_ok-name.ensures.is.says c.in_ok-items.ensures.is.says c.in_ok-body.ensures.is.says;
     }
 
 pub if_statement-returns-in_err-word-clause-is : goal.if_statement-returns-in_err-word-clause-is
@@ -105,7 +105,7 @@ if_statement-returns-clause-is t c =
     record {
       parse = pair c.in_ok-word.ensures.is.parse (pair c.in_ok-rest.ensures.is.parse (pair c.in_ok-condition.ensures.is.parse (pair c.in_ok-body.ensures.is.parse c.in_ok-other.ensures.is.parse)));
       finds = (then (then (then (then (makes_call rule.if_statement) (clear _ _ refl refl) c.in_ok-word.ensures.is.finds) (clear _ _ refl refl) c.in_ok-rest.ensures.is.finds) (clear _ _ refl refl) c.in_ok-condition.ensures.is.finds) (clear _ _ refl refl) c.in_ok-body.ensures.is.finds).found _ _ c.in_ok-other.ensures.is.finds;
-      says = c.new.ensures ∙ if_said _ _ _ _ _ c.in_ok-word.ensures.is.parse c.in_ok-rest.ensures.is.parse c.in_ok-condition.ensures.is.parse c.in_ok-body.ensures.is.parse c.in_ok-other.ensures.is.parse (the_token c.in_ok-word.ensures.is) c.in_ok-condition.ensures.is.says (two_parts c.in_ok-condition.ensures.is.finds.takes) c.in_ok-body.ensures.is.says c.in_ok-other.ensures.is.says;
+      says = c.new.ensures ∙ if_said _ _ _ _ _ c.in_ok-word.ensures.is.parse c.in_ok-rest.ensures.is.parse c.in_ok-condition.ensures.is.parse c.in_ok-body.ensures.is.parse c.in_ok-other.ensures.is.parse (the_token c.in_ok-word.ensures.is) c.in_ok-condition.ensures.is.says c.in_ok-body.ensures.is.says c.in_ok-other.ensures.is.says;
     }
 
 pub other_branch-returns-in_default-clause-is : goal.other_branch-returns-in_default-clause-is

@@ -4,10 +4,8 @@ use Rattle.fn_tree.specs.Rules.{assignment}
 use Rattle.fn_tree.proofs.Language.{clear}
 use Rattle.fn_syntax.proofs.Descent.{makes_call, then, misses}
 use Rattle.fn_syntax.proofs.Answering.{missed}
-use Rattle.fn_syntax.proofs.Parts.{two_parts}
 use Rattle.fn_syntax.proofs.Said.{assignment_said}
 use Rattle.fn_syntax.proofs.parser.statement.assignment.Goals as goal
-
 
 pub returns-in_err-name-clause-is : goal.returns-in_err-name-clause-is
 returns-in_err-name-clause-is c =
@@ -26,5 +24,5 @@ returns-clause-is c =
     record {
       parse = pair c.in_ok-name.ensures.is.parse (pair c.in_ok-rest.ensures.is.parse c.in_ok-value.ensures.is.parse);
       finds = (then (then (makes_call assignment) (clear _ _ refl refl) c.in_ok-name.ensures.is.finds) (clear _ _ refl refl) c.in_ok-rest.ensures.is.finds).found _ _ c.in_ok-value.ensures.is.finds;
-      says = c.new.ensures ∙ assignment_said _ _ _ _ _ _ c.in_ok-name.ensures.is.says c.in_ok-value.ensures.is.says (two_parts c.in_ok-value.ensures.is.finds.takes);
+      says = c.new.ensures ∙ assignment_said c.args.text.now c.in_ok-name.name c.in_ok-value.value c.in_ok-name.ensures.is.parse c.in_ok-rest.ensures.is.parse c.in_ok-value.ensures.is.parse c.in_ok-name.ensures.is.says c.in_ok-value.ensures.is.says;
     }

@@ -2,7 +2,6 @@ use Rattle.std.proofs.Common.{◌≡◌, refl}
 use Rattle.fn_tree.specs.Grammar.{pair}
 use Rattle.fn_tree.specs.Rules.{return_statement}
 use Rattle.fn_tree.proofs.FormViews.{act-Return}
-use Rattle.fn_syntax.proofs.Parts.{two_parts}
 use Rattle.fn_tree.proofs.Language.{clear}
 use Rattle.fn_syntax.proofs.Descent.{makes_call, then, misses}
 use Rattle.fn_syntax.proofs.Answering.{missed, the_token}
@@ -22,5 +21,5 @@ returns-clause-is c =
     record {
       parse = pair c.in_ok-word.ensures.is.parse c.in_ok-value.ensures.is.parse;
       finds = (then (makes_call return_statement) (clear _ _ refl refl) c.in_ok-word.ensures.is.finds).found _ _ c.in_ok-value.ensures.is.finds;
-      says = rw (two_parts c.in_ok-value.ensures.is.finds.takes, ← w, ← c.in_ok-value.ensures.is.says, ← act-Return) c.new.ensures;
+      says = rw (← w, ← c.in_ok-value.ensures.is.says, ← act-Return) c.new.ensures;
     }

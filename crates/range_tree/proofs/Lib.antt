@@ -1,0 +1,13 @@
+pub mod Orders
+pub mod Bounds
+pub mod Crosses
+pub mod Found
+pub mod Inserted
+pub mod Kept
+pub mod Members
+pub mod Removed
+pub mod Searched
+pub mod Sharing
+pub mod Shown
+pub mod Values
+pub mod Words
