@@ -1,13 +1,12 @@
 -- Which alternative the next tokens choose.
-use Rattle.std.proofs.Common.{◌≡◌, ℕ, List, [], ◌∷◌, Bool, true, false, Option, Some, None, if◌then◌else◌, Result, Ok, Err, Bor, ◌⊎◌, inl, inr, refl, sym, ap, subst, ◌∙◌}
-use Rattle.fn_tree.specs.Fronts.{Ends, same, before, Finds, Fails}
+use Rattle.std.proofs.Common.{◌≡◌, ℕ, List, [], ◌∷◌, Bool, true, false, Some, None, if◌then◌else◌, Result, Ok, Err, Bor, ◌⊎◌, inl, inr, refl, sym, subst, ◌∙◌}
+use Rattle.fn_tree.specs.Fronts.{Ends, same, before, Fails}
 use Rattle.fn_tree.specs.Grammar.{Prod, Parse, Takes, Reads, seq, alt, rule, in_left, in_right}
 use Rattle.fn_tree.specs.Grammar.Takes.{one, both, call}
 use Rattle.fn_tree.specs.Grammar.Takes.{stop}
 use Rattle.fn_tree.specs.Grammar.Reads.{none_yet, the_token, in_first, in_next, in_other, in_one, in_call}
 use Rattle.fn_tree.specs.Language.{grammar, mark, closed_expression}
 use Rattle.fn_tree.specs.ParseTrees as tree
-use Rattle.fn_tree.specs.Rules as rules
 use Rattle.fn_tree.specs.Rules.{let_statement, if_statement, for_statement, return_statement, throw_statement, assignment, evaluation, statement, function}
 use Rattle.fn_tree.specs.SyntaxTree as plain
 use Rattle.fn_tree.specs.SyntaxViews.{stmt_view, function_view}
@@ -20,16 +19,14 @@ use Rattle.fn_tree.specs.declared.lexeme.Word as word
 use Rattle.fn_tree.specs.declared.lexeme.Word.TheVariants as words
 use Rattle.fn_tree.specs.declared.syntax.Function.{Function}
 use Rattle.fn_tree.specs.declared.syntax.Stmt.{Stmt}
-use Rattle.fn_tree.proofs.Fronts.{takes_ends, reads_ends, not_behind}
 use Rattle.fn_tree.proofs.Language.{reads_evaluation, no_evaluation}
 use Rattle.fn_tree.proofs.LanguageTables.{tables}
-use Rattle.fn_tree.proofs.Tables.{nil, starts}
+use Rattle.fn_tree.proofs.Tables.{starts}
 use Rattle.fn_tree.proofs.Tokens.{true_or_false}
 use Rattle.fn_syntax.specs.Classes.{next_is, has}
 use Rattle.fn_syntax.specs.Declarations.{entry, helper}
-use Rattle.fn_syntax.specs.Descents.{IsDescent, Stops, Found}
-use Rattle.fn_syntax.specs.Statements.{begun, named, next_statement}
-use Rattle.fn_syntax.specs.declared.parser.class.Class.{Class}
+use Rattle.fn_syntax.specs.Descents.{IsDescent}
+use Rattle.fn_syntax.specs.Statements.{begun, next_statement}
 use Rattle.fn_syntax.specs.declared.parser.class.Class.TheVariants.{Only, Entry}
 use Rattle.fn_syntax.specs.declared.parser.cursor.Stop.{Stop}
 use Rattle.fn_syntax.specs.declared.parser.cursor.Stop.TheVariants.{Memory, Wrong}

@@ -1,8 +1,7 @@
 -- Parts that may be left out or stand in turns, and what stands behind them.
-use Rattle.std.proofs.Common.{◌≡◌, ◌<◌, ℕ, List, [], ◌∷◌, length, refl, arith, Bool, true, false}
+use Rattle.std.proofs.Common.{◌≡◌, ◌<◌, List, [], ◌∷◌, length, arith, Bool, true, false}
 use Rattle.fn_tree.specs.Fronts.{Ends, same, before, Finds, Fails, NoClash}
-use Rattle.fn_tree.specs.Grammar.{Prod, Parse, Takes, Reads, token, seq, turns, rule, opt, endless, no_less, none, pair, in_left, in_right}
-use Rattle.fn_tree.specs.Grammar.Takes.{one, both}
+use Rattle.fn_tree.specs.Grammar.{Prod, Parse, Reads, token, seq, turns, rule, endless, no_less, none, pair}
 use Rattle.fn_tree.specs.Grammar.Reads.{the_token, in_first, in_call}
 use Rattle.fn_tree.specs.Language.{grammar}
 use Rattle.fn_tree.specs.Rules.{Rule}
@@ -15,7 +14,7 @@ use Rattle.fn_tree.proofs.Tables.{nil, starts}
 use Rattle.fn_tree.proofs.Tokens.{and, or, no, no_false, not_true, is_false, each, at_each}
 use Rattle.fn_syntax.specs.Classes.{next_is}
 use Rattle.fn_syntax.specs.declared.parser.class.Class.TheVariants.{Only}
-use Rattle.fn_syntax.proofs.Descent.{Makes, makes_same, makes_on, makes_next, makes_turn, makes_in, turns_end, left_out, not_shorter, shut, shut_end}
+use Rattle.fn_syntax.proofs.Descent.{Makes, makes_same, makes_on, makes_next, makes_turn, turns_end, not_shorter, shut, shut_end}
 
 -- turns up to a rest, and what is known of their parse
 pub record Turned (p : Prod) (Known : (Parse → Parse) → Type 0) (ts rest : List Lexeme) : Type 0 where

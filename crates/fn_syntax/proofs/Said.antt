@@ -1,9 +1,9 @@
 -- What turns say, item by item, and what was built of them so far.
-use Rattle.std.proofs.Common.{rules, ◌≡◌, ◌∙◌, ℕ, List, [], ◌∷◌, ◌++◌, map, refl, sym, ap, append_assoc, append-nil, codes, subst, Vec, Option}
+use Rattle.std.proofs.Common.{◌≡◌, ◌∙◌, ℕ, List, [], ◌∷◌, ◌++◌, map, refl, sym, ap, append_assoc, append-nil, codes, Vec, Option}
 use Rattle.std.specs.declared.alloc.Global.{Global}
 use Rattle.std.proofs.lemmas.List.{map-append}
 use Rattle.fn_tree.specs.Grammar.{Parse, leaf, none, pair, in_left, in_right}
-use Rattle.fn_tree.specs.ParseTrees.{turns_of, second, commas_of, said, token_of, named_of, at_of, parts_of, path_of, path_at, parameters_of, kind_of, index_of, table_of, entry_of, helper_of, closed_of, block_of, closed_statements_of, statements_of, statement_of, if_of, for_of, else_of, assignment_of, evaluation_of}
+use Rattle.fn_tree.specs.ParseTrees.{turns_of, second, said, token_of, named_of, parts_of, path_of, path_at, parameters_of, kind_of, index_of, table_of, entry_of, helper_of, closed_of, block_of, closed_statements_of, statements_of, statement_of, if_of, for_of, else_of, assignment_of, evaluation_of}
 use Rattle.fn_tree.specs.SyntaxTree as plain
 use Rattle.fn_tree.specs.SyntaxViews.{stmts_of, stmt_view, act_view, else_view, expr_view, index_view, table_view, function_view}
 use Rattle.fn_tree.specs.declared.lexeme.Lexeme.{Lexeme}

@@ -2,7 +2,7 @@
 use Rattle.std.proofs.Common.{◌≡◌, ℕ, List, [], ◌∷◌, length, map, Result, Ok, Err, IsErrAnd, refl, sym, ap, subst, ◌∙◌, arith}
 use Rattle.std.proofs.lemmas.Result.{err_from_is_err_and}
 use Rattle.fn_tree.specs.Fronts.{Ends, same, before, Finds, Fails}
-use Rattle.fn_tree.specs.Grammar.{Prod, Parse, Takes, Reads, turns, rule, endless, none, pair}
+use Rattle.fn_tree.specs.Grammar.{Prod, Parse, Takes, turns, rule, endless, none, pair}
 use Rattle.fn_tree.specs.Grammar.Less.{no_less}
 use Rattle.fn_tree.specs.Grammar.Takes.{both, call}
 use Rattle.fn_tree.specs.Language.{grammar}
@@ -19,7 +19,7 @@ use Rattle.fn_syntax.specs.Declarations.StopsIn.{fails, ends}
 use Rattle.fn_syntax.specs.Descents.{Stops, Found, StopsAt, IsModule}
 use Rattle.fn_syntax.specs.declared.parser.cursor.Stop.{Stop}
 use Rattle.fn_syntax.specs.declared.parser.cursor.Stop.TheVariants.{Memory, Wrong}
-use Rattle.fn_syntax.proofs.Descent.{Makes, makes_call, makes_turn, then, misses, fails_none}
+use Rattle.fn_syntax.proofs.Descent.{makes_call, makes_turn, then, misses, fails_none}
 use Rattle.fn_syntax.proofs.Parts.{Turned, turns_over}
 use Rattle.fn_syntax.proofs.Said.{Says, says_all}
 

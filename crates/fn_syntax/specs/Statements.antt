@@ -1,5 +1,5 @@
 -- What the next tokens begin, and the parts of statements.
-use Rattle.std.specs.Prelude.{Bool, true, false, List, [], ◌∷◌, Option, Some, None, if◌then◌else◌}
+use Rattle.std.specs.Prelude.{List, [], ◌∷◌, Option, Some, None, if◌then◌else◌}
 use Rattle.fn_tree.specs.Grammar.{Prod, seq, turns, rule, endless, opt}
 use Rattle.fn_tree.specs.Language.{closed, word as reserved}
 use Rattle.fn_tree.specs.Rules as rules

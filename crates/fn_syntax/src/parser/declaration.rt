@@ -155,12 +155,7 @@ fn path<'t>(alloc: Global, text: &str, tokens: &'t [Lexeme]) -> Parsed<'t, Funct
 }
 
 // The further parts of a path, each behind a slash, put behind its front.
-fn parts<'t>(
-    alloc: Global,
-    text: &str,
-    tokens: &'t [Lexeme],
-    front: String,
-) -> Parsed<'t, String>
+fn parts<'t>(alloc: Global, text: &str, tokens: &'t [Lexeme], front: String) -> Parsed<'t, String>
     ensures is { IsDescent declarations.parts (λ p a. string_bytes p ≡ string_bytes front ++ tree.parts_of text.now a) tokens.now result }
     ensures shorter { IfOk result (λ x. length x.1.now ≤ length tokens.now) }
 {

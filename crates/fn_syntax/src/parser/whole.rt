@@ -43,11 +43,7 @@ fn tables<'t>(alloc: Global, text: &str, tokens: &'t [Lexeme]) -> Parsed<'t, Vec
 }
 
 // Functions up to the last token.
-fn functions<'t>(
-    alloc: Global,
-    text: &str,
-    tokens: &'t [Lexeme],
-) -> Result<Vec<Function>, Stop<'t>>
+fn functions<'t>(alloc: Global, text: &str, tokens: &'t [Lexeme]) -> Result<Vec<Function>, Stop<'t>>
     ensures { IsWhole (turns endless (rule rules.function)) (λ v a. map function_view v.items ≡ map (tree.function_of text.now) (tree.turns_of a)) tokens.now result }
 {
     let mut functions = Seq::new(alloc);

@@ -1,4 +1,4 @@
-use Rattle.std.proofs.Common.{◌≡◌, refl, sym, ap, ◌∙◌, [], arith}
+use Rattle.std.proofs.Common.{sym}
 use Rattle.fn_syntax.proofs.Choices.{an_entry, a_helper}
 use Rattle.fn_syntax.proofs.parser.declaration.function.Goals as goal
 

@@ -1,4 +1,4 @@
-use Rattle.std.proofs.Common.{◌≡◌, refl, sym, ap, ◌∙◌, [], arith}
+use Rattle.std.proofs.Common.{refl, sym, [], arith}
 use Rattle.fn_tree.specs.Grammar.{none}
 use Rattle.fn_tree.specs.declared.lexeme.Terminal.TheVariants.{Word as ReservedWord}
 use Rattle.fn_tree.specs.declared.lexeme.Word.TheVariants.{Index}

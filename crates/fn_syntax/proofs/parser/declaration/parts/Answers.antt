@@ -1,4 +1,4 @@
-use Rattle.std.proofs.Common.{◌≡◌, refl, sym, ap, ◌∙◌, [], arith}
+use Rattle.std.proofs.Common.{refl, sym, ◌∙◌, arith}
 use Rattle.fn_tree.specs.Grammar.{none}
 use Rattle.fn_tree.proofs.Fronts.{seq_fails}
 use Rattle.fn_tree.proofs.Language.{clear}

@@ -1,9 +1,9 @@
-use Rattle.std.proofs.Common.{◌≡◌, refl, sym, ap, ◌∙◌, [], arith}
+use Rattle.std.proofs.Common.{refl, arith}
 use Rattle.fn_tree.specs.Grammar.{pair, none}
 use Rattle.fn_tree.proofs.Fronts.{seq_fails}
 use Rattle.fn_tree.proofs.Language.{clear}
-use Rattle.fn_syntax.proofs.Descent.{makes_call, makes_same, then, misses, left_out, not_shorter}
-use Rattle.fn_syntax.proofs.Answering.{missed, the_token}
+use Rattle.fn_syntax.proofs.Descent.{makes_same, then, misses}
+use Rattle.fn_syntax.proofs.Answering.{missed}
 use Rattle.fn_syntax.proofs.Parts.{no_turn, both_turn, second_missed, turns_over}
 use Rattle.fn_syntax.proofs.Said.{says_more, says_all, names_said}
 use Rattle.fn_syntax.proofs.parser.list.names.Goals as goal

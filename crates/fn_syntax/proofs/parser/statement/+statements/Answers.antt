@@ -1,4 +1,4 @@
-use Rattle.std.proofs.Common.{◌≡◌, refl, sym, ap, ◌∙◌, [], arith}
+use Rattle.std.proofs.Common.{refl, sym, ap, ◌∙◌, [], arith}
 use Rattle.fn_tree.specs.Grammar.{pair, none, in_left, in_right}
 use Rattle.fn_tree.specs.Grammar.Reads.{in_first}
 use Rattle.fn_tree.specs.Rules as rule

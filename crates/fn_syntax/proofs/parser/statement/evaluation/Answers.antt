@@ -1,4 +1,4 @@
-use Rattle.std.proofs.Common.{◌≡◌, refl, ◌∙◌}
+use Rattle.std.proofs.Common.{◌∙◌}
 use Rattle.fn_tree.specs.Rules.{evaluation}
 use Rattle.fn_syntax.proofs.Descent.{makes_call}
 use Rattle.fn_syntax.proofs.Answering.{missed}

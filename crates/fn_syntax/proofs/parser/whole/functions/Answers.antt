@@ -1,12 +1,9 @@
-use Rattle.std.proofs.Common.{◌≡◌, refl, sym, ap, ◌∙◌, [], arith}
+use Rattle.std.proofs.Common.{refl, sym, arith}
 use Rattle.std.proofs.lemmas.Bool.{eq-eqb, eqb-true}
 use Rattle.fn_tree.proofs.Tokens.{true_or_false}
-use Rattle.fn_tree.specs.Grammar.{none}
-use Rattle.fn_tree.specs.Language.{grammar}
 use Rattle.fn_tree.proofs.Language.{clear}
-use Rattle.fn_syntax.proofs.Descent.{fails_none}
-use Rattle.fn_syntax.proofs.Parts.{no_turn, one_turn, turns_over}
-use Rattle.fn_syntax.proofs.Said.{views_more, says_all}
+use Rattle.fn_syntax.proofs.Parts.{no_turn, one_turn}
+use Rattle.fn_syntax.proofs.Said.{views_more}
 use Rattle.fn_syntax.proofs.Wholes.{function_missed, functions_found, whole_missed}
 use Rattle.fn_syntax.proofs.parser.whole.functions.Goals as goal
 

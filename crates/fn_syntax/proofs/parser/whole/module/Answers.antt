@@ -1,4 +1,3 @@
-use Rattle.std.proofs.Common.{◌≡◌, refl, sym, ap, ◌∙◌, [], arith}
 use Rattle.fn_syntax.proofs.Wholes.{tables_missed, functions_missed, module_found}
 use Rattle.fn_syntax.proofs.parser.whole.module.Goals as goal
 
