@@ -1,5 +1,6 @@
 pub mod Answering
 pub mod Chains
+pub mod Choices
 pub mod Closings
 pub mod Descent
 pub mod FirstFaults
@@ -7,10 +8,13 @@ pub mod Items
 pub mod Lexing
 pub mod Nexts
 pub mod Numbers
+pub mod Parts
 pub mod Places
 pub mod Primaries
 pub mod Reading
+pub mod Said
 pub mod Says
 pub mod Signs
 pub mod Texts
 pub mod TooDeep
+pub mod Wholes

@@ -1,8 +1,10 @@
 pub mod Classes
+pub mod Declarations
 pub mod Descents
 pub mod FirstFaults
 pub mod Levels
 pub mod Means
 pub mod Numbers
 pub mod Primaries
+pub mod Statements
 pub mod Tokens

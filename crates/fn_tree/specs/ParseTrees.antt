@@ -309,28 +309,63 @@ abbrev mutual
 
 -- ---- statements
 
+abbrev pub no_statement : Stmt
+no_statement = stmt 0 (evaluate missing)
+
+abbrev pub let_of : List ℕ → Parse → Stmt
+let_of s (pair w (pair n (pair q a))) = stmt (token_of w).at (declare (named_of s (token_of n)) (closed_of s a))
+let_of s a = no_statement
+
+abbrev pub return_of : List ℕ → Parse → Stmt
+return_of s (pair w a) = stmt (token_of w).at (give_back (closed_of s a))
+return_of s a = no_statement
+
+abbrev pub throw_of : List ℕ → Parse → Stmt
+throw_of s (pair w a) = stmt (token_of w).at (throw (closed_of s a))
+throw_of s a = no_statement
+
+abbrev pub assignment_of : List ℕ → Parse → Stmt
+assignment_of s (pair n (pair q a)) = stmt (token_of n).at (assign (named_of s (token_of n)) (closed_of s a))
+assignment_of s a = no_statement
+
+abbrev pub evaluation_of : List ℕ → Parse → Stmt
+evaluation_of s a = stmt (at_of (closed_of s a)) (evaluate (closed_of s a))
+
 abbrev mutual
   pub statements_of : List ℕ → Parse → Stmts
   statements_of s (pair a more) = then_stmt (statement_of s a) (statements_of s more)
   statements_of s a = no_stmts
 
   pub block_of : List ℕ → Parse → Stmts
-  block_of s (pair o (pair a close)) = statements_of s a
+  block_of s (pair o a) = closed_statements_of s a
   block_of s a = no_stmts
+
+  -- statements and the brace that closes them
+  pub closed_statements_of : List ℕ → Parse → Stmts
+  closed_statements_of s (pair a close) = statements_of s a
+  closed_statements_of s a = no_stmts
 
   pub else_of : List ℕ → Parse → Else
   else_of s (in_left (pair w a)) = or_else (block_of s a)
   else_of s a = no_else
 
+  pub if_of : List ℕ → Parse → Stmt
+  if_of s (pair w (pair o (pair a (pair b e)))) = stmt (token_of w).at (choose (closed_of s a) (block_of s b) (else_of s e))
+  if_of s a = no_statement
+
+  pub for_of : List ℕ → Parse → Stmt
+  for_of s (pair w (pair o (pair n (pair i (pair a b))))) = stmt (token_of w).at (each (named_of s (token_of n)) (closed_of s a) (block_of s b))
+  for_of s a = no_statement
+
   pub statement_of : List ℕ → Parse → Stmt
-  statement_of s (in_left (pair w (pair n (pair q (pair a end))))) = stmt (token_of w).at (declare (named_of s (token_of n)) (expression_of s a))
-  statement_of s (in_right (in_left (pair w (pair o (pair (pair a close) (pair b e)))))) = stmt (token_of w).at (choose (expression_of s a) (block_of s b) (else_of s e))
-  statement_of s (in_right (in_right (in_left (pair w (pair o (pair n (pair i (pair (pair a close) b)))))))) = stmt (token_of w).at (each (named_of s (token_of n)) (expression_of s a) (block_of s b))
-  statement_of s (in_right (in_right (in_right (in_left (pair w (pair a end)))))) = stmt (token_of w).at (give_back (expression_of s a))
-  statement_of s (in_right (in_right (in_right (in_right (in_left (pair w (pair a end))))))) = stmt (token_of w).at (throw (expression_of s a))
-  statement_of s (in_right (in_right (in_right (in_right (in_right (in_left (pair n (pair q (pair a end))))))))) = stmt (token_of n).at (assign (named_of s (token_of n)) (expression_of s a))
-  statement_of s (in_right (in_right (in_right (in_right (in_right (in_right (pair a end))))))) = stmt (at_of (expression_of s a)) (evaluate (expression_of s a))
-  statement_of s a = stmt 0 (evaluate missing)
+  statement_of s (in_left a) = let_of s a
+  statement_of s (in_right (in_left a)) = if_of s a
+  statement_of s (in_right (in_right (in_left a))) = for_of s a
+  statement_of s (in_right (in_right (in_right (in_left a)))) = return_of s a
+  statement_of s (in_right (in_right (in_right (in_right (in_left a))))) = throw_of s a
+  statement_of s (in_right (in_right (in_right (in_right (in_right (in_left a)))))) = assignment_of s a
+  statement_of s (in_right (in_right (in_right (in_right (in_right (in_right a)))))) = evaluation_of s a
+  statement_of s a = no_statement
 
 -- ---- declarations
 
@@ -357,10 +392,22 @@ abbrev pub parameters_of : List ℕ → Parse → List Named
 parameters_of s (pair o (pair a close)) = map (λ n. named_of s (token_of n)) (maybe_commas_of a)
 parameters_of s a = []
 
+abbrev pub no_function : FunctionTree
+no_function = record { kind = AHelper; udf = []; params = []; body = no_stmts; at = 0 }
+
+-- a query or a mutation
+abbrev pub entry_of : List ℕ → Parse → FunctionTree
+entry_of s (pair k (pair p (pair ps b))) = record { kind = kind_of (token_of k).terminal; udf = path_of s p; params = parameters_of s ps; body = block_of s b; at = path_at p }
+entry_of s a = no_function
+
+abbrev pub helper_of : List ℕ → Parse → FunctionTree
+helper_of s (pair k (pair n (pair ps b))) = record { kind = AHelper; udf = said s (token_of n); params = parameters_of s ps; body = block_of s b; at = (token_of n).at }
+helper_of s a = no_function
+
 abbrev pub function_of : List ℕ → Parse → FunctionTree
-function_of s (in_left (pair k (pair p (pair ps b)))) = record { kind = kind_of (token_of k).terminal; udf = path_of s p; params = parameters_of s ps; body = block_of s b; at = path_at p }
-function_of s (in_right (pair k (pair n (pair ps b)))) = record { kind = AHelper; udf = said s (token_of n); params = parameters_of s ps; body = block_of s b; at = (token_of n).at }
-function_of s a = record { kind = AHelper; udf = []; params = []; body = no_stmts; at = 0 }
+function_of s (in_left a) = entry_of s a
+function_of s (in_right a) = helper_of s a
+function_of s a = no_function
 
 abbrev pub index_of : List ℕ → Parse → IndexTree
 index_of s (pair w (pair n (pair o (pair fs a)))) = record { name = named_of s (token_of n); fields = map (λ f. named_of s (token_of f)) (commas_of fs) }
