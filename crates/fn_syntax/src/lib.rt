@@ -2,6 +2,8 @@
 //! first fault of bytes that are no such text.
 #![tactic(auto)]
 
+#[cfg(test)]
+mod grammar_tests;
 mod laws;
 mod lexer;
 mod module_text;

@@ -67,6 +67,30 @@ fn the_first_fault_is_told(rt: HostRuntime) -> Result<(), Fail> {
             50,
         ),
         ("((((((((((((((((((((((((((((((((((", Why::WrongToken, 0),
+        ("query q:a() {", Why::EarlyEnd, 13),
+        (
+            "query q:a() { return (((((((((((((((((((((((((((((((((",
+            Why::TooDeep,
+            52,
+        ),
+        (
+            "query q:a() { return ((((((((((((((((((((((((((((((((",
+            Why::TooDeep,
+            52,
+        ),
+        (
+            "query q:a() { return (((((((((((((((((((((((((((((((",
+            Why::EarlyEnd,
+            52,
+        ),
+        ("query q:a() { 1 = 2; }", Why::WrongToken, 16),
+        ("query q:a() { x = y = 2; }", Why::WrongToken, 20),
+        ("query q:a() { x == 1 == 2; }", Why::WrongToken, 21),
+        ("query q:a() { return x.count; }", Why::WrongToken, 23),
+        ("query q:a() { let if = 1; }", Why::WrongToken, 18),
+        ("table t { } 01", Why::BadToken, 12),
+        ("table t { } table 01", Why::BadToken, 18),
+        ("table t } 01", Why::WrongToken, 8),
     ];
     for (text, why, at) in rows {
         let fault = SyntaxFault { at, why };

@@ -1,16 +1,16 @@
 -- What goes on a text of a production stands in the table of what follows; parts that one token tells apart.
-use Rattle.std.proofs.Common.{ℕ, zero, suc, List, [], ◌∷◌, ◌≡◌, refl, ap, sym, subst, ◌⊎◌, inl, inr, Bool, true, false}
+use Rattle.std.proofs.Common.{List, ◌∷◌, ◌≡◌, refl, ap, subst, ◌⊎◌, inl, inr, Bool, true, false}
 use Rattle.fn_tree.specs.declared.lexeme.Lexeme.{Lexeme}
 use Rattle.fn_tree.specs.declared.lexeme.Terminal.{Terminal}
 use Rattle.fn_tree.specs.Rules.{Rule}
 use Rattle.fn_tree.specs.Grammar.{Prod, Parse, Takes, Reads, Bound, Less}
 use Rattle.fn_tree.specs.Grammar.Prod.{token, empty, seq, alt, turns, rule}
-use Rattle.fn_tree.specs.Grammar.Parse.{leaf, none, pair, in_left, in_right}
+use Rattle.fn_tree.specs.Grammar.Parse.{leaf, none, in_left, in_right}
 use Rattle.fn_tree.specs.Grammar.Takes.{one, nothing, both, left, right, stop, turn, call}
 use Rattle.fn_tree.specs.Grammar.Reads.{none_yet, the_token, in_first, in_next, in_one, in_other, in_turn, in_later, in_call}
 use Rattle.fn_tree.specs.Grammar.Less.{one_less, no_less}
 use Rattle.fn_tree.specs.Fronts.{Ends, same, before, NoClash}
-use Rattle.fn_tree.proofs.Fronts.{ends_trans, ends_full, takes_ends, reads_ends, not_behind}
+use Rattle.fn_tree.proofs.Fronts.{ends_trans, ends_full, takes_ends, not_behind}
 use Rattle.fn_tree.proofs.Tables.{Tables, Sound, nil, starts, follows, at_head, head_map, head_not, takes_nil, reads_nil}
 use Rattle.fn_tree.proofs.Tokens.{or, and, no, or_left, or_right, and_both, and_first, and_next, each, not_true, true_or_false}
 
@@ -210,6 +210,7 @@ front_meets {g = g} {s = s} w d (left {p = p} {q = q} {a = a} {ts = ts} {r = r} 
     go s p q d e x (inl y) = inl (ends_trans e y)
     go {ts = ts} s p q d e (inr x) (inr y) = absurd (other s p q d ts x y)
     go {ts = ts} s p q d e (inl x) (inr y) = inr (subst (λ (z : List Lexeme). at_head (follows s (alt p q)) z) (ends_full x.0 e) (head_map (starts s q) (follows s (alt p q)) (λ k h. or_right (or (follows s p k) (follows s q k)) _ (or_left _ _ (and_both _ _ x.1 h))) ts y))
+
     pick : Away s p q ⊎ Cross g s p q → Ends r l ⊎ at_head (follows s (alt p q)) r
     pick (inl x) = go s p q x (takes_ends t) (takes_nil w.sound t) (reads_nil w.sound v)
     pick (inr x) = x.ahead a ts r l t v
@@ -219,6 +220,7 @@ front_meets {g = g} {s = s} w d (right {p = p} {q = q} {a = a} {ts = ts} {r = r}
     go s p q d e x (inl y) = inl (ends_trans e y)
     go {ts = ts} s p q d e (inr x) (inr y) = absurd (other s p q d ts y x)
     go {ts = ts} s p q d e (inl x) (inr y) = inr (subst (λ (z : List Lexeme). at_head (follows s (alt p q)) z) (ends_full x.0 e) (head_map (starts s p) (follows s (alt p q)) (λ k h. or_right (or (follows s p k) (follows s q k)) _ (or_right (and (nil s p) (starts s q k)) _ (and_both _ _ x.1 h))) ts y))
+
     pick : Away s p q ⊎ Cross g s p q → Ends r l ⊎ at_head (follows s (alt p q)) r
     pick (inl x) = go s p q x (takes_ends t) (takes_nil w.sound t) (reads_nil w.sound v)
     pick (inr x) = x.back a ts r l t v
@@ -265,6 +267,7 @@ no_clash {s = s} {p = p} {q = q} w o d = record { apart = λ a ts c l t f u. mee
     both_ways s p q d (inl x) y = not_behind x
     both_ways s p q d (inr x) (inl y) = not_behind y
     both_ways {c = c} {l = l} s p q d (inr x) (inr y) = apart s p q d (c ∷ l) x y
+
     meet : {g : Rule → Prod} {z : Named} {a : Parse} {ts : List Lexeme} {c : Lexeme} {l : List Lexeme} (s : Tables) (p q : Prod) → Decided g s z → Good g s z p → Apart s p q → Takes g p a ts (c ∷ l) → Reads g p ts l → Reads g q (c ∷ l) l → ⊥
     meet s p q w o d t f u = both_ways s p q d (front_meets w o t f) (reads_nil w.sound u)
 

@@ -1,14 +1,13 @@
 -- The plain form of each form of an expression, and the plain statement of each statement.
-use Rattle.std.proofs.Common.{rules, ◌≡◌, ℤ, Bool, true, false, List, ℕ, map, Option, Some, None, Vec, ap, sym, ◌∙◌}
+use Rattle.std.proofs.Common.{◌≡◌, ℤ, Bool, true, false, List, ℕ, map, Option, Some, None, Vec, ap, sym, ◌∙◌}
 use Rattle.std.specs.declared.alloc.Global.{Global}
 use Rattle.fn_tree.specs.ParseTrees.{at_of}
 use Rattle.fn_tree.specs.SyntaxTree as plain
-use Rattle.fn_tree.specs.SyntaxViews.{expr_view, form_view, bound_view, exprs_of, entries_of, bounds_of, limit_of, stmt_view, act_view, stmts_of, else_of, else_view}
+use Rattle.fn_tree.specs.SyntaxViews.{expr_view, form_view, bound_view, exprs_of, entries_of, bounds_of, limit_of, stmt_view, act_view, stmts_of, else_view}
 use Rattle.fn_tree.specs.declared.syntax.BinaryOp.{BinaryOp}
 use Rattle.fn_tree.specs.declared.syntax.BoundExpr.{BoundExpr}
 use Rattle.fn_tree.specs.declared.syntax.Builtin.{Builtin}
 use Rattle.fn_tree.specs.declared.syntax.Expr.{Expr}
-use Rattle.fn_tree.specs.declared.syntax.ExprForm.{ExprForm}
 use Rattle.fn_tree.specs.declared.syntax.ExprForm.TheVariants as form
 use Rattle.fn_tree.specs.declared.syntax.ExprForm.TheFolds.{fold-roll-ExprForm, fold_out-Expr}
 use Rattle.fn_tree.specs.SyntaxViews.{BoundView, form_step, bound_step, expr_step, act_step, stmt_step}

@@ -1,11 +1,10 @@
 -- Fronts of any grammar: they are closed, and the furthest one composes.
-use Rattle.std.proofs.Common.{ℕ, ◌≤◌, length, arith, subst, List, [], ◌∷◌, ◌≡◌, refl, ap, sym, ◌⊎◌, inl, inr, Bool, true}
+use Rattle.std.proofs.Common.{◌≤◌, length, arith, subst, List, ◌∷◌, ◌≡◌, refl, ◌⊎◌, inl, inr}
 use Rattle.fn_tree.specs.declared.lexeme.Lexeme.{Lexeme}
-use Rattle.fn_tree.specs.declared.lexeme.Terminal.{Terminal}
 use Rattle.fn_tree.specs.Rules.{Rule}
 use Rattle.fn_tree.specs.Grammar.{Prod, Parse, Takes, Reads, Bound, Less}
-use Rattle.fn_tree.specs.Grammar.Prod.{token, empty, seq, alt, turns, rule}
-use Rattle.fn_tree.specs.Grammar.Parse.{leaf, none, pair, in_left, in_right}
+use Rattle.fn_tree.specs.Grammar.Prod.{token, empty, seq, turns}
+use Rattle.fn_tree.specs.Grammar.Parse.{pair}
 use Rattle.fn_tree.specs.Grammar.Takes.{one, nothing, both, left, right, stop, turn, call}
 use Rattle.fn_tree.specs.Grammar.Reads.{none_yet, the_token, in_first, in_next, in_one, in_other, in_turn, in_later, in_call}
 use Rattle.fn_tree.specs.Fronts.{Ends, same, before, Finds, Fails, NoClash}
@@ -110,6 +109,7 @@ seq_last {g = g} {p = p} {q = q} {a = a} {ts = ts} {m = m} {r = r} n f e h (in_n
     past : {g : Rule → Prod} {p q : Prod} {a b : Parse} {c : Lexeme} {ts k m r l : List Lexeme} → NoClash g p q → Finds g p a ts m → Ends r m → Takes g p b ts (c ∷ k) → Reads g q (c ∷ k) l → Ends m k → Ends l (c ∷ k) → Ends r l
     past n f e t u d same = ends_trans e (before d)
     past n f e t u d (before b) = absurd (clash n (takes_reads f.takes) d t u b)
+
     go : {g : Rule → Prod} {p q : Prod} {a b : Parse} {ts k m r l : List Lexeme} → NoClash g p q → Finds g p a ts m → Ends r m → ((l : List Lexeme) → Reads g q m l → Ends r l) → Takes g p b ts k → Reads g q k l → Ends m k → Ends r l
     go {l = l} n f e h t u same = h l u
     go n f e h t u (before d) = past n f e t u d (reads_ends u)
@@ -123,6 +123,7 @@ seq_fails_next n f h = record { reads = in_next f.takes h.reads; last = λ l. λ
     at : {g : Rule → Prod} {p q : Prod} {a b d : Parse} {ts k m r : List Lexeme} → NoClash g p q → Finds g p a ts m → Fails g q m r → Takes g p b ts k → Takes g q d k r → Ends m k → ⊥
     at {d = d} n f h t u same = h.none d u
     at n f h t u (before e) = clash n (takes_reads f.takes) e t (takes_reads u) (ends_trans (reads_ends h.reads) e)
+
     go : {g : Rule → Prod} {p q : Prod} {a b : Parse} {ts m r : List Lexeme} → NoClash g p q → Finds g p a ts m → Fails g q m r → Takes g (seq p q) b ts r → ⊥
     go n f h (both {m = k} t u) = at n f h t u (f.last k (takes_reads t))
 
@@ -132,15 +133,19 @@ seq_fails n f = record { reads = in_first f.reads; last = λ l. λ x. go n f x; 
     past : {g : Rule → Prod} {p q : Prod} {b : Parse} {c : Lexeme} {ts k r l : List Lexeme} → NoClash g p q → Fails g p ts r → Takes g p b ts (c ∷ k) → Reads g q (c ∷ k) l → Ends r k → Ends l (c ∷ k) → Ends r l
     past n f t u d same = before d
     past n f t u d (before b) = absurd (clash n f.reads d t u b)
+
     at : {g : Rule → Prod} {p q : Prod} {b : Parse} {ts k r l : List Lexeme} → NoClash g p q → Fails g p ts r → Takes g p b ts k → Reads g q k l → Ends r k → Ends r l
     at {b = b} n f t u same = absurd (f.none b t)
     at n f t u (before d) = past n f t u d (reads_ends u)
+
     go : {g : Rule → Prod} {p q : Prod} {ts r l : List Lexeme} → NoClash g p q → Fails g p ts r → Reads g (seq p q) ts l → Ends r l
     go n f none_yet = reads_ends f.reads
     go {l = l} n f (in_first t) = f.last l t
     go n f (in_next {m = k} t u) = at n f t u (f.last k (takes_reads t))
+
     end : {g : Rule → Prod} {p q : Prod} {b d : Parse} {ts k r : List Lexeme} → NoClash g p q → Fails g p ts r → Takes g p b ts k → Takes g q d k r → Ends r k → ⊥
     end {b = b} n f t u same = f.none b t
     end n f t u (before e) = clash n f.reads e t (takes_reads u) e
+
     all : {g : Rule → Prod} {p q : Prod} {b : Parse} {ts r : List Lexeme} → NoClash g p q → Fails g p ts r → Takes g (seq p q) b ts r → ⊥
     all n f (both {m = k} t u) = end n f t u (f.last k (takes_reads t))

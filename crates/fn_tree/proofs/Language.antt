@@ -1,22 +1,21 @@
 -- The language is told apart by one token, but for assignments and evaluations, which two tokens tell apart.
-use Rattle.std.proofs.Common.{ℕ, List, [], ◌∷◌, ◌≡◌, refl, sym, subst, ◌⊎◌, inl, inr, Bool, true, false}
-use Rattle.fn_tree.specs.Grammar.{Prod, Parse, Takes, Reads, token, empty, seq, alt, turns, rule}
-use Rattle.fn_tree.specs.Grammar.Parse.{leaf, none, pair, in_left, in_right}
+use Rattle.std.proofs.Common.{List, ◌∷◌, ◌≡◌, refl, subst, ◌⊎◌, inl, inr, Bool, true, false}
+use Rattle.fn_tree.specs.Grammar.{Prod, Parse, Takes, Reads, token, rule}
 use Rattle.fn_tree.specs.Grammar.Takes.{one, nothing, both, left, right, stop, call}
 use Rattle.fn_tree.specs.Grammar.Reads.{none_yet, the_token, in_first, in_next, in_call}
 use Rattle.fn_tree.specs.Fronts.{Ends, same, before, NoClash}
-use Rattle.fn_tree.specs.Language.{grammar, name, mark}
+use Rattle.fn_tree.specs.Language.{grammar, mark}
 use Rattle.fn_tree.specs.Rules.{Rule, whole_module, table, index, function, path, parameters, block, statement, let_statement, if_statement, for_statement, return_statement, throw_statement, assignment, evaluation, expression, conjunction, comparison, sum, term, unary, postfix, suffix, primary, named, builtin_call, array, object, entry, group, scan, bound, count, lookup, moment, insertion, change}
 use Rattle.fn_tree.specs.Terminals.{is}
 use Rattle.fn_tree.specs.declared.lexeme.Lexeme.{Lexeme}
 use Rattle.fn_tree.specs.declared.lexeme.Terminal.{Terminal}
 use Rattle.fn_tree.specs.declared.lexeme.Terminal.TheVariants.{Name, Mark as Punctuation}
 use Rattle.fn_tree.specs.declared.lexeme.Mark.TheVariants.{Assign, Semicolon}
-use Rattle.fn_tree.proofs.Fronts.{ends_trans, ends_full, takes_ends, reads_ends, not_behind}
+use Rattle.fn_tree.proofs.Fronts.{ends_trans, ends_full, takes_ends}
 use Rattle.fn_tree.proofs.Tokens.{and, no, no_false, at_each, true_or_false}
-use Rattle.fn_tree.proofs.Tables.{at_head, follows, starts, takes_nil}
+use Rattle.fn_tree.proofs.Tables.{at_head, follows}
 use Rattle.fn_tree.proofs.LanguageTables.{tables, sound, after_in, all_single, goes_on_expression}
-use Rattle.fn_tree.proofs.Follows.{Named as Covered, Decided, Good, Cross, Meets, level, short, long, Apart, decided, good, texts_meet, front_meets, no_clash, one_tree, takes_same, single}
+use Rattle.fn_tree.proofs.Follows.{Named as Covered, Decided, Good, Cross, Meets, level, short, long, Apart, decided, good, texts_meet, front_meets, no_clash, one_tree, takes_same}
 
 -- the productions of expressions
 abbrev in_expressions : Covered
@@ -110,6 +109,7 @@ only_name {c = c} {e = e} {ts = ts} {m = m} h k t = go k t (takes_ends t) (texts
     up : {a : Parse} {c e : Lexeme} {ts m : List Lexeme} → Takes grammar (rule expression) a (c ∷ e ∷ ts) m → Ends (e ∷ ts) m → Ends m (c ∷ e ∷ ts) → m ≡ e ∷ ts
     up t x same = absurd (true_or_false _ (takes_same sound t same) refl)
     up t x (before y) = ends_full y x
+
     go : {a : Parse} {c e : Lexeme} {ts m : List Lexeme} → is (Punctuation Assign) e.terminal ≡ true → Takes grammar (rule expression) a (c ∷ e ∷ ts) m → Ends m (c ∷ e ∷ ts) → Meets (follows tables (rule expression)) (e ∷ ts) m → m ≡ e ∷ ts
     go k t y level = refl
     go {e = e} k t y (short x z) = absurd (not_on e.terminal k z)

@@ -1,6 +1,5 @@
 -- The tables of the language: what may be nothing, what begins each production, and what goes on a text of it.
-use Rattle.std.proofs.Common.{ℕ, ◌≡◌, Bool, true, false, refl}
-use Rattle.fn_tree.specs.Grammar.{Prod, token, empty, seq, alt, turns, rule, up_to, endless}
+use Rattle.std.proofs.Common.{◌≡◌, Bool, true, false, refl}
 use Rattle.fn_tree.specs.Language.{grammar}
 use Rattle.fn_tree.specs.Rules.{Rule, whole_module, table, index, function, path, parameters, block, statement, let_statement, if_statement, for_statement, return_statement, throw_statement, assignment, evaluation, expression, conjunction, comparison, sum, term, unary, postfix, suffix, primary, named, builtin_call, array, object, entry, group, scan, bound, count, lookup, moment, insertion, change}
 use Rattle.fn_tree.specs.Terminals.{is, is_field_name, is_part, is_entry, is_comparison, is_or, is_and, is_additive, is_multiplicative, is_sign, is_suffix, is_builtin, is_lookup, is_change}
@@ -8,7 +7,7 @@ use Rattle.fn_tree.specs.declared.lexeme.Terminal.{Terminal}
 use Rattle.fn_tree.specs.declared.lexeme.Terminal.TheVariants.{Name, Integer, Str, Word as ReservedWord, Mark as Punctuation}
 use Rattle.fn_tree.specs.declared.lexeme.Word.TheVariants.{Table, Index, Query, Mutation, Helper, Let, If, Else, For, In, Return, Throw, Scan, Desc, Take, Count, Insert, Now}
 use Rattle.fn_tree.specs.declared.lexeme.Mark.TheVariants.{OpenBrace, OpenParen, OpenBracket}
-use Rattle.fn_tree.proofs.Tokens.{or, no, each, at_each, implied}
+use Rattle.fn_tree.proofs.Tokens.{or, no, at_each, implied}
 use Rattle.fn_tree.proofs.Tables.{Tables, Sound, nil, starts, follows}
 use Rattle.fn_tree.proofs.Follows.{single}
 

@@ -1,15 +1,15 @@
 -- What begins a production, what goes on a text of it, and what its first token must be.
-use Rattle.std.proofs.Common.{ℕ, zero, suc, List, [], ◌∷◌, ◌≡◌, refl, ap, sym, subst, ◌⊎◌, inl, inr, Bool, true, false}
+use Rattle.std.proofs.Common.{List, [], ◌∷◌, ◌≡◌, refl, subst, ◌⊎◌, inl, inr, Bool, true, false}
 use Rattle.fn_tree.specs.declared.lexeme.Lexeme.{Lexeme}
 use Rattle.fn_tree.specs.declared.lexeme.Terminal.{Terminal}
 use Rattle.fn_tree.specs.Rules.{Rule}
-use Rattle.fn_tree.specs.Grammar.{Prod, Parse, Takes, Reads, Bound, Less}
+use Rattle.fn_tree.specs.Grammar.{Prod, Parse, Takes, Reads, Bound}
 use Rattle.fn_tree.specs.Grammar.Prod.{token, empty, seq, alt, turns, rule}
 use Rattle.fn_tree.specs.Grammar.Takes.{one, nothing, both, left, right, stop, turn, call}
 use Rattle.fn_tree.specs.Grammar.Reads.{none_yet, the_token, in_first, in_next, in_one, in_other, in_turn, in_later, in_call}
-use Rattle.fn_tree.specs.Fronts.{Ends, same, before}
-use Rattle.fn_tree.proofs.Fronts.{ends_trans, ends_full, takes_ends, reads_ends}
-use Rattle.fn_tree.proofs.Tokens.{or, and, no, or_left, or_right, and_both, and_first, and_next, no_false, each, at_each}
+use Rattle.fn_tree.specs.Fronts.{Ends, same}
+use Rattle.fn_tree.proofs.Fronts.{ends_trans, ends_full, takes_ends}
+use Rattle.fn_tree.proofs.Tokens.{or, and, no, or_left, or_right, and_both, no_false, each, at_each}
 
 -- for each name: may its production be nothing, what begins it, what goes on a text of it
 pub record Tables : Type 0 where
@@ -128,7 +128,6 @@ reads_nil {g = g} {s = s} w (in_call {i = i} {ts = ts} {r = r} t) = go (reads_ni
     go : Ends ts r ⊎ at_head (starts s (g i)) ts → Ends ts r ⊎ at_head (s.first i) ts
     go (inl x) = inl x
     go (inr x) = inr (head_map (starts s (g i)) (s.first i) (w.first i) ts x)
-
 
 -- nothing begins at a token that doesn't begin the production
 pub shut_at : {g : Rule → Prod} {s : Tables} {p : Prod} {c : Lexeme} {ts l : List Lexeme} → Sound g s → starts s p c.terminal ≡ false → Reads g p (c ∷ ts) l → Ends (c ∷ ts) l

@@ -1,6 +1,6 @@
 -- The furthest front of a production: what a descent finds, and where it fails.
-use Rattle.std.specs.Prelude.{ℕ, suc, List, [], ◌∷◌}
-use Rattle.fn_tree.specs.Grammar.{Prod, seq, turns, Parse, Takes, Reads}
+use Rattle.std.specs.Prelude.{List, ◌∷◌}
+use Rattle.fn_tree.specs.Grammar.{Prod, Parse, Takes, Reads}
 use Rattle.fn_tree.specs.Rules.{Rule}
 use Rattle.fn_tree.specs.declared.lexeme.Lexeme.{Lexeme}
 

@@ -1,6 +1,6 @@
 -- Grammars as data: productions, their texts and their fronts.
 -- A list of tokens and its rest, the tokens left, stand for the tokens between: these are a text, or a front.
-use Rattle.std.specs.Prelude.{◌≡◌, ℕ, suc, Bool, true, List, [], ◌∷◌}
+use Rattle.std.specs.Prelude.{◌≡◌, ℕ, suc, Bool, true, List, ◌∷◌}
 use Rattle.fn_tree.specs.Rules.{Rule}
 use Rattle.fn_tree.specs.declared.lexeme.Lexeme.{Lexeme}
 use Rattle.fn_tree.specs.declared.lexeme.Terminal.{Terminal}

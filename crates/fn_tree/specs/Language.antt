@@ -1,6 +1,6 @@
 -- The grammar of a module text.
-use Rattle.std.specs.Prelude.{ℕ, Bool, List, ◌∷◌, []}
-use Rattle.fn_tree.specs.Grammar.{Prod, token, empty, seq, alt, turns, rule, up_to, endless, opt}
+use Rattle.std.specs.Prelude.{Bool}
+use Rattle.fn_tree.specs.Grammar.{Prod, token, seq, alt, turns, rule, up_to, endless, opt}
 use Rattle.fn_tree.specs.Rules.{Rule, whole_module, table, index, function, path, parameters, block, statement, let_statement, if_statement, for_statement, return_statement, throw_statement, assignment, evaluation, expression, conjunction, comparison, sum, term, unary, postfix, suffix, primary, named, builtin_call, array, object, entry, group, scan, bound, count, lookup, moment, insertion, change}
 use Rattle.fn_tree.specs.Terminals.{is, is_literal, is_field_name, is_part, is_entry, is_comparison, is_bound_operator, is_or, is_and, is_additive, is_multiplicative, is_sign, is_builtin, is_lookup, is_change}
 use Rattle.fn_tree.specs.declared.lexeme.Terminal.{Terminal}

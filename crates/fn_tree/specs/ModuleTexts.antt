@@ -1,5 +1,5 @@
 -- Which bytes are the text of a module, and the first fault of those that are none.
-use Rattle.std.specs.Prelude.{◌≡◌, ℕ, ◌<◌, ◌≤◌, ◌⊎◌, List, [], ◌∷◌, length, drop, Option, Some, None}
+use Rattle.std.specs.Prelude.{◌≡◌, ℕ, ◌<◌, ◌≤◌, ◌⊎◌, List, [], ◌∷◌, length, drop, Some, None}
 use Rattle.std.specs.Str.Lossy.{utf8_valid_len}
 use Rattle.fn_tree.specs.Fronts.{Ends}
 use Rattle.fn_tree.specs.Grammar.{Parse, Takes, Reads, rule}

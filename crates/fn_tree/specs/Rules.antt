@@ -1,5 +1,4 @@
 -- The named productions of the language.
-use Rattle.std.specs.Prelude.{ℕ}
 
 pub data Rule : Type 0 where
   whole_module table index function path parameters block : Rule

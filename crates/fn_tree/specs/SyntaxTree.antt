@@ -1,7 +1,6 @@
 -- The syntax tree as plain data, with the place of each form's first token.
 use Rattle.std.specs.Prelude.{ℕ, ℤ, Bool, List}
 use Rattle.fn_tree.specs.declared.syntax.Named.{Named}
-use Rattle.fn_tree.specs.declared.syntax.IndexDecl.{IndexDecl}
 use Rattle.fn_tree.specs.declared.syntax.Kind.{Kind}
 use Rattle.fn_tree.specs.declared.syntax.CompareOp.{CompareOp}
 use Rattle.fn_tree.specs.declared.syntax.UnaryOp.{UnaryOp}

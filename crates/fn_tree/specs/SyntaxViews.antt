@@ -1,6 +1,6 @@
 -- The plain tree that a syntax tree stands for.
 use Rattle.std.specs.declared.alloc.Global.{Global}
-use Rattle.std.specs.Prelude.{Vec, Bool, true, false, List, [], ◌∷◌, map, Option, Some, None}
+use Rattle.std.specs.Prelude.{Vec, true, false, List, [], ◌∷◌, map, Option, Some, None}
 use Rattle.fn_tree.specs.SyntaxTree as plain
 use Rattle.fn_tree.specs.SyntaxTree.{Exprs, no_exprs, then_expr, Entries, no_entries, entry, Bounds, no_bounds, bound, Limit, all_rows, up_to, Stmts, no_stmts, then_stmt, Else, no_else, or_else, FunctionTree, IndexTree, TableTree, ModuleTree}
 use Rattle.fn_tree.specs.declared.syntax.CompareOp.{CompareOp}

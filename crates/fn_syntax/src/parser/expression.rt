@@ -19,6 +19,9 @@ use cv_values::Memory;
 use fn_tree::{Expr, ExprForm, Lexeme, Mark, Terminal};
 use std::alloc::Global;
 
+// How many operators one chain has at most.
+const MOST_TURNS: u8 = 16;
+
 /// A level of operators that stand between operands, loosest first.
 #[derive(Clone, Copy, Debug)]
 pub(crate) enum Level {
@@ -61,14 +64,14 @@ fn joined(alloc: Global, left: Expr, operator: Lexeme, right: Expr) -> Result<Ex
     )
 }
 
-// Operands with at most 16 operators of the level between them.
+// Operands with operators of the level between them.
 #[cycle(expressions)]
 fn chain<'t>(alloc: Global, text: &str, tokens: &'t [Lexeme], level: Level) -> Parsed<'t, Expr>
     ensures is { IsDescent (rule (rule_of level)) (λ e a. expr_view e ≡ tree_of level text.now a) tokens.now result }
     ensures shorter { IfOk result (λ x. length x.1.now < length tokens.now) }
 {
     let (mut left, mut rest) = operand(alloc, text, tokens, level)?;
-    for _turn in 0..16u8 {
+    for _turn in 0..MOST_TURNS {
         let Some((operator, after)) = accept(rest, level.operators()) else {
             return Ok((left, rest));
         };
@@ -88,7 +91,7 @@ fn operand<'t>(alloc: Global, text: &str, tokens: &'t [Lexeme], level: Level) ->
         Level::Or => chain(alloc, text, tokens, Level::And),
         Level::And => comparison(alloc, text, tokens),
         Level::Sum => chain(alloc, text, tokens, Level::Term),
-        Level::Term => unary(alloc, text, tokens, 16),
+        Level::Term => unary(alloc, text, tokens, MOST_TURNS),
     }
 }
 
@@ -131,14 +134,14 @@ fn unary<'t>(alloc: Global, text: &str, tokens: &'t [Lexeme], most: u8) -> Parse
     Ok((Expr::new(alloc, sign.at, form)?, rest))
 }
 
-// A primary expression and at most 16 fields and items behind it.
+// A primary expression with fields and items behind it.
 #[cycle(expressions)]
 fn postfix<'t>(alloc: Global, text: &str, tokens: &'t [Lexeme]) -> Parsed<'t, Expr>
     ensures is { IsDescent (rule rules.postfix) (λ e a. expr_view e ≡ tree.postfix_of text.now a) tokens.now result }
     ensures shorter { IfOk result (λ x. length x.1.now < length tokens.now) }
 {
     let (mut value, mut rest) = primary(alloc, text, tokens)?;
-    for _turn in 0..16u8 {
+    for _turn in 0..MOST_TURNS {
         if !next_is(rest, Class::Suffix) {
             return Ok((value, rest));
         }
