@@ -1,5 +1,5 @@
 -- What a descent function answers, from what it called answered.
-use Rattle.std.proofs.Common.{◌≡◌, List, Result, Ok, Err, IsErrAnd, Bor, subst, sym, refl, ap, ◌∙◌}
+use Rattle.std.proofs.Common.{◌≡◌, List, Result, Ok, Err, IsErrAnd, Bor, subst, sym, ap, ◌∙◌}
 use Rattle.std.proofs.lemmas.Result.{err_from_is_err_and}
 use Rattle.fn_tree.specs.declared.lexeme.Lexeme.{Lexeme}
 use Rattle.fn_tree.specs.Fronts.{Fails}

@@ -1,10 +1,10 @@
 -- Operands with operators of one level between them, and what stands behind a primary expression.
-use Rattle.std.proofs.Common.{ℕ, zero, suc, ◌+◌, ◌<◌, ◌≤◌, length, arith, List, [], ◌∷◌, ◌≡◌, refl, sym, ap, subst, ◌∙◌}
+use Rattle.std.proofs.Common.{ℕ, zero, suc, ◌+◌, ◌<◌, ◌≤◌, length, arith, List, ◌≡◌, refl, sym, ap, subst, ◌∙◌}
 use Rattle.fn_tree.specs.Fronts.{Finds, Fails, NoClash}
 use Rattle.fn_tree.specs.Grammar.{Prod, token, seq, turns, rule, up_to, Parse, leaf, none, pair}
 use Rattle.fn_tree.specs.Grammar.Less.{one_less}
 use Rattle.fn_tree.specs.Grammar.Reads.{in_first}
-use Rattle.fn_tree.specs.Language.{grammar, chain}
+use Rattle.fn_tree.specs.Language.{grammar}
 use Rattle.fn_tree.specs.ParseTrees.{joined, token_of, postfix_of, suffixes_of, suffix_of, primary_of}
 use Rattle.fn_tree.specs.Rules.{postfix, suffix, primary}
 use Rattle.fn_tree.specs.SyntaxTree.{Expr}

@@ -1,10 +1,10 @@
 -- How a descent goes on, step by step: what the rest of a production finds or misses, the whole does.
-use Rattle.std.proofs.Common.{ℕ, suc, ◌≤◌, ◌<◌, length, arith, List, [], ◌∷◌, ◌≡◌, refl, ap, sym, subst, ◌⊎◌, inl, inr, Bool, true, false}
+use Rattle.std.proofs.Common.{◌≤◌, ◌<◌, length, arith, List, [], ◌∷◌, ◌≡◌, refl, sym, subst, Bool, true, false}
 use Rattle.fn_tree.specs.declared.lexeme.Lexeme.{Lexeme}
 use Rattle.fn_tree.specs.declared.lexeme.Terminal.{Terminal}
 use Rattle.fn_tree.specs.Fronts.{Ends, same, before, Finds, Fails, NoClash}
 use Rattle.fn_tree.specs.Grammar.{Prod, Parse, Takes, Reads, Bound, Less, opt}
-use Rattle.fn_tree.specs.Grammar.Bound.{up_to, endless}
+use Rattle.fn_tree.specs.Grammar.Bound.{up_to}
 use Rattle.fn_tree.specs.Grammar.Less.{one_less, no_less}
 use Rattle.fn_tree.specs.Grammar.Parse.{leaf, none, pair, in_left, in_right}
 use Rattle.fn_tree.specs.Grammar.Prod.{token, empty, seq, alt, turns, rule}

@@ -1,5 +1,5 @@
 -- Lists with commas between their items: expressions, entries and bounds.
-use Rattle.std.proofs.Common.{ℕ, ◌<◌, ◌≤◌, length, arith, List, [], ◌∷◌, ◌++◌, ◌≡◌, refl, sym, ap, subst, ◌∙◌, map, Vec}
+use Rattle.std.proofs.Common.{ℕ, ◌<◌, ◌≤◌, length, arith, List, [], ◌∷◌, ◌++◌, ◌≡◌, refl, sym, ap, subst, ◌∙◌, map}
 use Rattle.fn_tree.specs.Fronts.{Finds, Fails, NoClash}
 use Rattle.fn_tree.specs.Grammar.{Prod, seq, turns, rule, endless, Parse, leaf, none, pair}
 use Rattle.fn_tree.specs.Grammar.Less.{no_less}

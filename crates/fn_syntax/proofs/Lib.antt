@@ -1,4 +1,5 @@
 pub mod Answering
+pub mod Built
 pub mod Chains
 pub mod Choices
 pub mod Closings
@@ -12,7 +13,6 @@ pub mod Parts
 pub mod Places
 pub mod Primaries
 pub mod Reading
-pub mod Said
 pub mod Says
 pub mod Signs
 pub mod Texts

@@ -1,8 +1,8 @@
 -- Which alternative of a primary expression the next token begins.
-use Rattle.std.proofs.Common.{ℕ, List, [], ◌∷◌, ◌≡◌, refl, sym, subst, Bool, true, false, Option, Some, None, nat_eq, is_none}
+use Rattle.std.proofs.Common.{ℕ, List, [], ◌∷◌, ◌≡◌, refl, subst, Bool, true, false, Option, Some, None, nat_eq, is_none}
 use Rattle.std.proofs.lemmas.Bool.{eq-eqb}
 use Rattle.fn_tree.specs.Fronts.{Fails}
-use Rattle.fn_tree.specs.Grammar.{Prod, token, alt, rule, Parse, in_left, in_right}
+use Rattle.fn_tree.specs.Grammar.{Prod, token, alt, rule, in_left, in_right}
 use Rattle.fn_tree.specs.Language.{grammar}
 use Rattle.fn_tree.specs.Rules.{primary, named, builtin_call, array, object, group, scan, count, lookup, moment, insertion, change}
 use Rattle.fn_tree.specs.Terminals.{is_literal}

@@ -1,21 +1,19 @@
 -- What the expressions that were built say of their parses.
-use Rattle.std.proofs.Common.{ℕ, List, ◌≡◌, refl, sym, ap, ◌∙◌, Bool, Vec, Option, map}
+use Rattle.std.proofs.Common.{ℕ, List, ◌≡◌, sym, ap, ◌∙◌, Bool, Vec, Option, map}
 use Rattle.std.specs.Option.{option_map}
 use Rattle.std.specs.declared.alloc.Global.{Global}
 use Rattle.fn_tree.specs.Grammar.{Parse}
-use Rattle.fn_tree.specs.ParseTrees.{token_of, said, named_of, lookup_as, change_as, builtin_of, at_of, compare_of}
+use Rattle.fn_tree.specs.ParseTrees.{token_of, said, lookup_as, change_as, builtin_of, at_of, compare_of}
 use Rattle.fn_tree.specs.SyntaxTree as plain
-use Rattle.fn_tree.specs.SyntaxViews.{expr_view, form_view, bound_view, exprs_of, entries_of, bounds_of, limit_of}
+use Rattle.fn_tree.specs.SyntaxViews.{expr_view, form_view, bound_view, exprs_of, bounds_of, limit_of}
 use Rattle.fn_tree.specs.declared.lexeme.Lexeme.{Lexeme}
-use Rattle.fn_tree.specs.declared.lexeme.Terminal.{Terminal}
 use Rattle.fn_tree.specs.declared.syntax.BoundExpr.{BoundExpr}
 use Rattle.fn_tree.specs.declared.syntax.Builtin.{Builtin}
 use Rattle.fn_tree.specs.declared.syntax.CompareOp.{CompareOp}
 use Rattle.fn_tree.specs.declared.syntax.Expr.{Expr}
-use Rattle.fn_tree.specs.declared.syntax.ExprForm.{ExprForm}
 use Rattle.fn_tree.specs.declared.syntax.ExprForm.TheVariants as form
 use Rattle.fn_tree.specs.declared.syntax.Named.{Named}
-use Rattle.fn_tree.proofs.FormViews.{form-Group, form-Array, form-Object, form-Builtin, form-Insert, form-Scan, form-Var, form-Call, form-Field, form-Item}
+use Rattle.fn_tree.proofs.FormViews.{form-Builtin, form-Insert, form-Scan, form-Var, form-Call, form-Field, form-Item}
 
 -- a form at the place of a token
 pub at_token : {d : plain.Expr} {c : Lexeme} (p : Parse) {f g : plain.Form} → d ≡ plain.expr c.at f → c ≡ token_of p → f ≡ g → d ≡ plain.expr (token_of p).at g

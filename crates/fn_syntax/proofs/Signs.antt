@@ -1,21 +1,21 @@
 -- Signs before an operand.
-use Rattle.std.proofs.Common.{Option, Some, None, Bor, ◌⊎◌, inl, inr, ℕ, zero, suc, ◌-◌, ◌<◌, ◌≤◌, arith, List, [], ◌∷◌, ◌≡◌, refl, sym, ap, subst, ◌∙◌, Bool, true, false}
-use Rattle.fn_tree.specs.Fronts.{Ends, same, before, Finds, Fails}
+use Rattle.std.proofs.Common.{Option, Some, None, Bor, ◌⊎◌, inl, inr, ℕ, zero, suc, ◌-◌, ◌<◌, arith, List, ◌∷◌, ◌≡◌, refl, sym, ap, subst, ◌∙◌, true, false}
+use Rattle.fn_tree.specs.Fronts.{Ends, before, Finds, Fails}
 use Rattle.fn_tree.specs.Grammar.{Prod, Takes, Reads, Parse}
 use Rattle.fn_tree.specs.Grammar.Bound.{up_to}
 use Rattle.fn_tree.specs.Grammar.Less.{one_less}
-use Rattle.fn_tree.specs.Grammar.Parse.{leaf, none, pair, in_left, in_right}
+use Rattle.fn_tree.specs.Grammar.Parse.{leaf, none, pair}
 use Rattle.fn_tree.specs.Grammar.Prod.{token, seq, turns, rule}
 use Rattle.fn_tree.specs.Grammar.Takes.{one, both, stop, turn}
 use Rattle.fn_tree.specs.Grammar.Reads.{none_yet, the_token, in_first, in_next, in_turn, in_later}
 use Rattle.fn_tree.specs.Language.{grammar}
-use Rattle.fn_tree.specs.ParseTrees.{unary_of, sign_of, postfix_of, signed, token_of}
+use Rattle.fn_tree.specs.ParseTrees.{unary_of, sign_of}
 use Rattle.fn_tree.specs.Rules.{postfix}
 use Rattle.fn_tree.specs.SyntaxTree.{Expr, expr, unary}
 use Rattle.fn_tree.specs.Terminals.{is_sign}
 use Rattle.fn_tree.specs.declared.lexeme.Lexeme.{Lexeme}
 use Rattle.fn_tree.specs.declared.lexeme.Terminal.{Terminal}
-use Rattle.fn_tree.proofs.Fronts.{ends_trans, takes_ends, reads_ends, takes_reads}
+use Rattle.fn_tree.proofs.Fronts.{ends_trans, takes_ends, reads_ends}
 use Rattle.fn_tree.proofs.Language.{clear}
 use Rattle.fn_tree.proofs.LanguageTables.{tables, sound}
 use Rattle.fn_tree.proofs.Tables.{starts, shut_at, takes_nil, at_head}

@@ -21,7 +21,7 @@ use Rattle.fn_syntax.specs.declared.parser.cursor.Stop.{Stop}
 use Rattle.fn_syntax.specs.declared.parser.cursor.Stop.TheVariants.{Memory, Wrong}
 use Rattle.fn_syntax.proofs.Descent.{makes_call, makes_turn, then, misses, fails_none}
 use Rattle.fn_syntax.proofs.Parts.{Turned, turns_over}
-use Rattle.fn_syntax.proofs.Said.{Says, says_all}
+use Rattle.fn_syntax.proofs.Built.{Says, says_all}
 
 nil_end : {r : List Lexeme} → Ends r [] → [] ≡ r
 nil_end same = refl

@@ -1,5 +1,5 @@
 -- What a descent function answers.
-use Rattle.std.specs.Prelude.{◌≡◌, ℕ, Bool, List, [], ◌∷◌, Option, Some, None, Result, Ok, Err}
+use Rattle.std.specs.Prelude.{◌≡◌, ℕ, Bool, List, ◌∷◌, Option, Some, None, Result, Ok, Err}
 use Rattle.std.specs.Borrow.{Bor}
 use Rattle.fn_tree.specs.Fronts.{Ends, Finds, Fails}
 use Rattle.fn_tree.specs.Grammar.{Prod, token, Parse, leaf}

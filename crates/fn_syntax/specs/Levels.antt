@@ -1,6 +1,6 @@
 -- The levels of operators, loosest first.
 use Rattle.std.specs.Prelude.{ℕ, List}
-use Rattle.fn_tree.specs.Grammar.{Parse, pair}
+use Rattle.fn_tree.specs.Grammar.{Parse}
 use Rattle.fn_tree.specs.ParseTrees.{expression_of, ors_of, conjunction_of, ands_of, comparison_of, sum_of, addends_of, term_of, factors_of, unary_of}
 use Rattle.fn_tree.specs.Rules.{Rule, expression, conjunction, comparison, sum, term, unary}
 use Rattle.fn_tree.specs.SyntaxTree.{Expr}

@@ -1,11 +1,11 @@
 -- What the functions of the descent make of a parse.
-use Rattle.std.specs.Prelude.{◌≡◌, ◌<◌, ℕ, Bool, true, false, List, [], ◌∷◌, map, Option, None, Some, Vec}
+use Rattle.std.specs.Prelude.{◌≡◌, ◌<◌, ℕ, Bool, true, false, List, map, Option, None, Some, Vec}
 use Rattle.std.specs.declared.alloc.Global.{Global}
 use Rattle.std.specs.Borrow.{Bor}
 use Rattle.std.specs.Option.{option_map}
 use Rattle.fn_tree.specs.Fronts.{Finds}
 use Rattle.fn_tree.specs.Terminals.{is_sign}
-use Rattle.fn_tree.specs.Grammar.{Prod, token, turns, seq, up_to, endless, rule, opt, Parse, leaf, none, pair, in_left, in_right}
+use Rattle.fn_tree.specs.Grammar.{Prod, token, turns, seq, up_to, endless, rule, opt, Parse, leaf, none, pair}
 use Rattle.fn_tree.specs.Language.{grammar, mark, word, closed_expression}
 use Rattle.fn_tree.specs.ParseTrees as tree
 use Rattle.fn_tree.specs.Rules.{bound}

@@ -1,4 +1,4 @@
-use Rattle.std.proofs.Common.{rules, arith, ◌≡◌, refl, sym, ap, ◌∙◌, subst}
+use Rattle.std.proofs.Common.{rules, ◌≡◌, refl, sym, ap, ◌∙◌}
 use Rattle.fn_tree.specs.Grammar.{pair, leaf, none, in_left, in_right}
 use Rattle.fn_tree.specs.Grammar.Reads.{in_first}
 use Rattle.fn_tree.specs.Rules as rule
@@ -12,7 +12,7 @@ use Rattle.fn_syntax.proofs.Says.{at_token, at_expr, variable_said, call_said, b
 use Rattle.fn_tree.proofs.FormViews.{form-Group, form-Array, form-Object, form-Unary, view_at}
 use Rattle.fn_tree.proofs.Fronts.{takes_reads, seq_fails}
 use Rattle.fn_tree.proofs.Language.{clear}
-use Rattle.fn_syntax.proofs.Answering.{missed, the_token, descent_by, stops}
+use Rattle.fn_syntax.proofs.Answering.{missed, the_token, descent_by}
 use Rattle.fn_syntax.proofs.Chains.{chain_begins, chain_ends, chain_first_misses, chain_goes_by, chain_misses_by, chain_stops_by, suffix_begins, suffix_goes, suffix_stops, suffix_ends, suffix_misses}
 use Rattle.fn_syntax.proofs.Closings.{closing_first, list_first, closing_shut}
 use Rattle.fn_syntax.proofs.Descent.{makes_call, makes_same, makes_on, makes_in, makes_left_before, makes_right_after, then, misses, left_out, there, shut_by, opt_then_fails, not_shorter}

@@ -1,4 +1,4 @@
-use Rattle.std.proofs.Common.{◌≡◌, ◌<◌, ◌≤◌, length, ℕ, ◌+◌, ◌*◌, map}
+use Rattle.std.proofs.Common.{length, ℕ, ◌+◌, ◌*◌, map}
 use Rattle.fn_tree.specs.SyntaxViews.{expr_view, bound_view}
 use Rattle.fn_syntax.specs.declared.parser.expression.Level.{Level}
 use Rattle.fn_syntax.specs.declared.parser.expression.Level.TheVariants.{Or, And, Sum, Term}

@@ -1,6 +1,5 @@
-use Rattle.std.proofs.Common.{rules, ◌≡◌, Bool, true, false, List, [], ◌∷◌, subst, sym, refl, arith}
+use Rattle.std.proofs.Common.{List, subst, sym, refl}
 use Rattle.fn_tree.specs.declared.lexeme.Lexeme.{Lexeme}
-use Rattle.fn_tree.specs.declared.lexeme.Terminal.{Terminal}
 use Rattle.fn_syntax.specs.Classes.{has}
 use Rattle.fn_tree.specs.Language.{grammar}
 use Rattle.fn_tree.specs.Grammar.{token, leaf}

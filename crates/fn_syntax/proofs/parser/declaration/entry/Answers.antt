@@ -3,7 +3,7 @@ use Rattle.fn_tree.specs.Grammar.{pair}
 use Rattle.fn_tree.proofs.Language.{clear}
 use Rattle.fn_syntax.proofs.Descent.{makes_same, then, misses}
 use Rattle.fn_syntax.proofs.Answering.{missed, the_token}
-use Rattle.fn_syntax.proofs.Said.{entry_said}
+use Rattle.fn_syntax.proofs.Built.{entry_said}
 use Rattle.fn_syntax.proofs.parser.declaration.entry.Goals as goal
 
 pub returns-in_err-word-clause-is : goal.returns-in_err-word-clause-is

@@ -3,7 +3,7 @@ use Rattle.fn_tree.specs.Grammar.{pair}
 use Rattle.fn_tree.proofs.Language.{clear}
 use Rattle.fn_syntax.proofs.Descent.{makes_same, then, misses}
 use Rattle.fn_syntax.proofs.Answering.{missed}
-use Rattle.fn_syntax.proofs.Said.{helper_said}
+use Rattle.fn_syntax.proofs.Built.{helper_said}
 use Rattle.fn_tree.specs.declared.syntax.Kind.TheVariants as Kind
 use Rattle.fn_syntax.proofs.parser.declaration.helper.Goals as goal
 

@@ -5,7 +5,7 @@ use Rattle.fn_tree.specs.declared.lexeme.Word.TheVariants.{Index}
 use Rattle.fn_tree.proofs.Language.{clear}
 use Rattle.fn_syntax.proofs.Answering.{missed}
 use Rattle.fn_syntax.proofs.Parts.{no_turn, one_turn, begun_missed, begins, turns_over, shut_next, within}
-use Rattle.fn_syntax.proofs.Said.{views_more, says_all}
+use Rattle.fn_syntax.proofs.Built.{views_more, says_all}
 use Rattle.fn_syntax.proofs.parser.declaration.indexes.Goals as goal
 
 pub loop-alloc-init : goal.loop-alloc-init

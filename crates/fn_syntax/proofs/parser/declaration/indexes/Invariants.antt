@@ -4,7 +4,7 @@ use Rattle.fn_tree.specs.ParseTrees.{index_of}
 use Rattle.fn_tree.specs.Rules.{index}
 use Rattle.fn_tree.specs.SyntaxViews.{index_view}
 use Rattle.fn_syntax.proofs.Parts.{Turned}
-use Rattle.fn_syntax.proofs.Said.{Says}
+use Rattle.fn_syntax.proofs.Built.{Says}
 use Rattle.fn_syntax.proofs.parser.declaration.indexes.Given as goal
 
 abbrev pub invariant-loop-alloc : goal.invariant-loop-alloc

@@ -4,7 +4,7 @@ use Rattle.fn_tree.proofs.Fronts.{seq_fails}
 use Rattle.fn_tree.proofs.Language.{clear}
 use Rattle.fn_syntax.proofs.Answering.{missed, the_token}
 use Rattle.fn_syntax.proofs.Parts.{no_turn, both_turn, second_missed, turns_over}
-use Rattle.fn_syntax.proofs.Said.{parts_more}
+use Rattle.fn_syntax.proofs.Built.{parts_more}
 use Rattle.std.proofs.lemmas.List.{append-nil}
 use Rattle.fn_syntax.proofs.parser.declaration.parts.Goals as goal
 

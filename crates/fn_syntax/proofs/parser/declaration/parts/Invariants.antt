@@ -4,7 +4,7 @@ use Rattle.fn_tree.specs.Language.{mark}
 use Rattle.fn_tree.specs.Terminals.{is_part}
 use Rattle.fn_tree.specs.declared.lexeme.Mark.TheVariants.{Slash}
 use Rattle.fn_syntax.proofs.Parts.{Turned}
-use Rattle.fn_syntax.proofs.Said.{SaysParts}
+use Rattle.fn_syntax.proofs.Built.{SaysParts}
 use Rattle.fn_syntax.proofs.parser.declaration.parts.Given as goal
 
 abbrev pub invariant-loop-after : goal.invariant-loop-after

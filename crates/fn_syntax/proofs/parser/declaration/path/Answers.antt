@@ -4,7 +4,7 @@ use Rattle.fn_tree.specs.Rules.{path}
 use Rattle.fn_tree.proofs.Language.{clear}
 use Rattle.fn_syntax.proofs.Descent.{makes_call, then, misses}
 use Rattle.fn_syntax.proofs.Answering.{missed, the_token}
-use Rattle.fn_syntax.proofs.Said.{path_said}
+use Rattle.fn_syntax.proofs.Built.{path_said}
 use Rattle.fn_syntax.proofs.parser.declaration.path.Goals as goal
 
 pub returns-in_err-first-clause-is : goal.returns-in_err-first-clause-is

@@ -4,7 +4,7 @@ use Rattle.fn_tree.specs.Rules.{table}
 use Rattle.fn_tree.proofs.Language.{clear}
 use Rattle.fn_syntax.proofs.Descent.{makes_call, then, misses}
 use Rattle.fn_syntax.proofs.Answering.{missed}
-use Rattle.fn_syntax.proofs.Said.{table_said}
+use Rattle.fn_syntax.proofs.Built.{table_said}
 use Rattle.fn_syntax.proofs.parser.declaration.table.Goals as goal
 
 pub returns-in_err-rest-clause-is : goal.returns-in_err-rest-clause-is

@@ -1,4 +1,4 @@
-use Rattle.std.proofs.Common.{◌≡◌, ◌<◌, ℕ, arith, sym, subst}
+use Rattle.std.proofs.Common.{ℕ, arith, sym, subst}
 use Rattle.fn_tree.specs.Fronts.{Finds}
 use Rattle.fn_tree.specs.Grammar.{none, turns, token, up_to}
 use Rattle.fn_tree.specs.Language.{grammar}

@@ -5,7 +5,7 @@ use Rattle.fn_tree.proofs.Language.{clear}
 use Rattle.fn_syntax.proofs.Descent.{makes_same, then, misses}
 use Rattle.fn_syntax.proofs.Answering.{missed}
 use Rattle.fn_syntax.proofs.Parts.{no_turn, both_turn, second_missed, turns_over}
-use Rattle.fn_syntax.proofs.Said.{says_more, says_all, names_said}
+use Rattle.fn_syntax.proofs.Built.{says_more, says_all, names_said}
 use Rattle.fn_syntax.proofs.parser.list.names.Goals as goal
 
 pub returns-in_err-first-clause-is : goal.returns-in_err-first-clause-is

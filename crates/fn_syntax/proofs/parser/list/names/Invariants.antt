@@ -5,7 +5,7 @@ use Rattle.fn_tree.specs.ParseTrees.{named_of, token_of, second}
 use Rattle.fn_tree.specs.declared.lexeme.Mark.TheVariants.{Comma}
 use Rattle.fn_syntax.specs.Classes.{has}
 use Rattle.fn_syntax.proofs.Parts.{Turned}
-use Rattle.fn_syntax.proofs.Said.{Says}
+use Rattle.fn_syntax.proofs.Built.{Says}
 use Rattle.fn_syntax.proofs.parser.list.names.Given as goal
 
 abbrev pub invariant-loop-after : goal.invariant-loop-after

@@ -1,4 +1,4 @@
-use Rattle.std.proofs.Common.{◌≡◌, refl, arith}
+use Rattle.std.proofs.Common.{refl}
 use Rattle.fn_tree.specs.Grammar.{in_left, in_right, none}
 use Rattle.fn_tree.proofs.Fronts.{takes_reads}
 use Rattle.fn_syntax.proofs.Descent.{makes_in, left_out, not_shorter}

@@ -1,4 +1,4 @@
-use Rattle.std.proofs.Common.{rules, ◌≡◌, refl}
+use Rattle.std.proofs.Common.{refl}
 use Rattle.fn_tree.specs.Grammar.{pair}
 use Rattle.fn_tree.specs.Rules.{moment}
 use Rattle.fn_tree.proofs.FormViews.{form-Now}

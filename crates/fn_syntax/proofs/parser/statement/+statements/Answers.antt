@@ -12,7 +12,7 @@ use Rattle.fn_syntax.proofs.Descent.{makes_call, makes_in, then, misses, left_ou
 use Rattle.fn_syntax.proofs.Answering.{missed, the_token}
 use Rattle.fn_syntax.proofs.Choices.{passed, chosen, none_chosen}
 use Rattle.fn_syntax.proofs.Parts.{no_turn, one_turn, misses_turn, turns_over, shut_next, shut_here, apart}
-use Rattle.fn_syntax.proofs.Said.{views_more, says_all, statements_said, for_said, if_said}
+use Rattle.fn_syntax.proofs.Built.{views_more, says_all, statements_said, for_said, if_said}
 use Rattle.fn_syntax.proofs.parser.statement.+statements.Goals as goal
 
 pub block-returns-in_err-rest-clause-is : goal.block-returns-in_err-rest-clause-is

@@ -4,7 +4,7 @@ use Rattle.fn_tree.specs.ParseTrees.{statement_of}
 use Rattle.fn_tree.specs.Rules.{statement}
 use Rattle.fn_tree.specs.SyntaxViews.{stmt_view}
 use Rattle.fn_syntax.proofs.Parts.{Turned}
-use Rattle.fn_syntax.proofs.Said.{Says}
+use Rattle.fn_syntax.proofs.Built.{Says}
 use Rattle.fn_syntax.proofs.parser.statement.+statements.Given as goal
 
 abbrev pub decreases-block : goal.decreases-block

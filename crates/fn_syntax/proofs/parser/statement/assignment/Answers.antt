@@ -4,7 +4,7 @@ use Rattle.fn_tree.specs.Rules.{assignment}
 use Rattle.fn_tree.proofs.Language.{clear}
 use Rattle.fn_syntax.proofs.Descent.{makes_call, then, misses}
 use Rattle.fn_syntax.proofs.Answering.{missed}
-use Rattle.fn_syntax.proofs.Said.{assignment_said}
+use Rattle.fn_syntax.proofs.Built.{assignment_said}
 use Rattle.fn_syntax.proofs.parser.statement.assignment.Goals as goal
 
 pub returns-in_err-name-clause-is : goal.returns-in_err-name-clause-is

@@ -2,7 +2,7 @@ use Rattle.std.proofs.Common.{◌∙◌}
 use Rattle.fn_tree.specs.Rules.{evaluation}
 use Rattle.fn_syntax.proofs.Descent.{makes_call}
 use Rattle.fn_syntax.proofs.Answering.{missed}
-use Rattle.fn_syntax.proofs.Said.{evaluation_said}
+use Rattle.fn_syntax.proofs.Built.{evaluation_said}
 use Rattle.fn_syntax.proofs.parser.statement.evaluation.Goals as goal
 
 pub returns-in_err-value-clause-is : goal.returns-in_err-value-clause-is

@@ -3,7 +3,7 @@ use Rattle.std.proofs.lemmas.Bool.{eq-eqb, eqb-true}
 use Rattle.fn_tree.proofs.Tokens.{true_or_false}
 use Rattle.fn_tree.proofs.Language.{clear}
 use Rattle.fn_syntax.proofs.Parts.{no_turn, one_turn}
-use Rattle.fn_syntax.proofs.Said.{views_more}
+use Rattle.fn_syntax.proofs.Built.{views_more}
 use Rattle.fn_syntax.proofs.Wholes.{function_missed, functions_found, whole_missed}
 use Rattle.fn_syntax.proofs.parser.whole.functions.Goals as goal
 

@@ -4,7 +4,7 @@ use Rattle.fn_tree.specs.ParseTrees.{function_of}
 use Rattle.fn_tree.specs.Rules.{function}
 use Rattle.fn_tree.specs.SyntaxViews.{function_view}
 use Rattle.fn_syntax.proofs.Parts.{Turned}
-use Rattle.fn_syntax.proofs.Said.{Says}
+use Rattle.fn_syntax.proofs.Built.{Says}
 use Rattle.fn_syntax.proofs.parser.whole.functions.Given as goal
 
 abbrev pub invariant-loop-rest : goal.invariant-loop-rest

@@ -1,4 +1,4 @@
-use Rattle.std.proofs.Common.{rules, ◌≡◌, Bool, true, false}
+use Rattle.std.proofs.Common.{rules}
 use Rattle.fn_tree.proofs.Tokens.{is_told}
 use Rattle.fn_syntax.proofs.parser.class.Class.has.Goals as goal
 
