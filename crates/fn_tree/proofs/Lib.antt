@@ -1,5 +1,6 @@
 pub mod AsciiEnds
 pub mod Begins
+pub mod Characters
 pub mod Follows
 pub mod FormViews
 pub mod Frames

@@ -13,6 +13,7 @@ mod entry;
 mod fault;
 mod laws;
 mod lexeme;
+mod printer;
 mod syntax;
 #[cfg(test)]
 mod tests;

@@ -1,0 +1,3 @@
+//! The canonical text of a module.
+mod expressions;
+mod tokens;

@@ -1,0 +1,272 @@
+ghost use Rattle.std.specs.Prelude.{◌≡◌, true, ◌++◌, IfOk, string_bytes, map};
+ghost use Rattle.std.specs.Option.{option_map};
+ghost use Rattle.fn_tree.specs.Canonical.{comma, expr_text, exprs_text, entries_text, bounds_text, limit_text, order_text, comparison_mark, operator_mark, sign_mark, builtin_word};
+ghost use Rattle.fn_tree.specs.SyntaxViews.{expr_view, bound_view, exprs_of, entries_of, bounds_of, limit_of};
+
+use crate::lexeme::{Mark, Word};
+use crate::printer::tokens::{put_integer, put_mark, put_name, put_string, put_token, put_word};
+use crate::syntax::{BinaryOp, BoundExpr, Builtin, CompareOp, Expr, ExprForm, Named, UnaryOp};
+use cv_values::Memory;
+use std::alloc::Global;
+
+fn comparison_mark(op: CompareOp) -> Mark
+    ensures { result ≡ comparison_mark op }
+{
+    match op {
+        CompareOp::Equal => Mark::Equal,
+        CompareOp::NotEqual => Mark::NotEqual,
+        CompareOp::Less => Mark::Less,
+        CompareOp::LessEqual => Mark::LessEqual,
+        CompareOp::Greater => Mark::Greater,
+        CompareOp::GreaterEqual => Mark::GreaterEqual,
+    }
+}
+
+fn operator_mark(op: BinaryOp) -> Mark
+    ensures { result ≡ operator_mark op }
+{
+    match op {
+        BinaryOp::Or => Mark::OrOr,
+        BinaryOp::And => Mark::AndAnd,
+        BinaryOp::Compare(op) => comparison_mark(op),
+        BinaryOp::Add => Mark::Plus,
+        BinaryOp::Subtract => Mark::Minus,
+        BinaryOp::Multiply => Mark::Star,
+        BinaryOp::Divide => Mark::Slash,
+        BinaryOp::Remainder => Mark::Percent,
+    }
+}
+
+fn sign_mark(op: UnaryOp) -> Mark
+    ensures { result ≡ sign_mark op }
+{
+    match op {
+        UnaryOp::Negate => Mark::Minus,
+        UnaryOp::Not => Mark::Not,
+    }
+}
+
+fn builtin_word(builtin: Builtin) -> Word
+    ensures { result ≡ builtin_word builtin }
+{
+    match builtin {
+        Builtin::Len => Word::Len,
+        Builtin::Has => Word::Has,
+        Builtin::Push => Word::Push,
+        Builtin::Set => Word::Set,
+        Builtin::Without => Word::Without,
+        Builtin::Slice => Word::Slice,
+        Builtin::Range => Word::Range,
+        Builtin::Show => Word::Show,
+        Builtin::Keys => Word::Keys,
+    }
+}
+
+#[cycle(print_expr)]
+pub fn print_expr(alloc: Global, out: &mut String, e: &Expr) -> Result<(), Memory>
+    ensures { IfOk result
+        (λ done. string_bytes out.new ≡ string_bytes out.old ++ expr_text (expr_view e.now)) }
+{
+    match &*e.form {
+        ExprForm::Int(n) => put_integer(alloc, out, *n),
+        ExprForm::Str(s) => put_string(out, s.as_str()),
+        ExprForm::True => put_word(out, Word::True),
+        ExprForm::False => put_word(out, Word::False),
+        ExprForm::Null => put_word(out, Word::Null),
+        ExprForm::Var(x) => put_token(out, x.as_str()),
+        ExprForm::Call(f, es) => {
+            put_token(out, f.as_str())?;
+            put_mark(out, Mark::OpenParen)?;
+            print_exprs(alloc, out, es)?;
+            put_mark(out, Mark::CloseParen)
+        }
+        ExprForm::Builtin(builtin, es) => {
+            put_word(out, builtin_word(*builtin))?;
+            put_mark(out, Mark::OpenParen)?;
+            print_exprs(alloc, out, es)?;
+            put_mark(out, Mark::CloseParen)
+        }
+        ExprForm::Array(es) => {
+            put_mark(out, Mark::OpenBracket)?;
+            print_exprs(alloc, out, es)?;
+            put_mark(out, Mark::CloseBracket)
+        }
+        ExprForm::Object(es) => {
+            put_mark(out, Mark::OpenBrace)?;
+            print_entries(alloc, out, es)?;
+            put_mark(out, Mark::CloseBrace)
+        }
+        ExprForm::Group(e) => {
+            put_mark(out, Mark::OpenParen)?;
+            print_expr(alloc, out, e)?;
+            put_mark(out, Mark::CloseParen)
+        }
+        ExprForm::Scan {
+            table,
+            index,
+            bounds,
+            desc,
+            take,
+        } => {
+            put_word(out, Word::Scan)?;
+            put_mark(out, Mark::OpenParen)?;
+            put_name(out, table)?;
+            put_mark(out, Mark::Comma)?;
+            put_name(out, index)?;
+            print_bounds(alloc, out, bounds)?;
+            put_mark(out, Mark::CloseParen)?;
+            put_order(out, *desc)?;
+            print_limit(alloc, out, take)
+        }
+        ExprForm::Count(table) => {
+            put_word(out, Word::Count)?;
+            put_mark(out, Mark::OpenParen)?;
+            put_name(out, table)?;
+            put_mark(out, Mark::CloseParen)
+        }
+        ExprForm::Get(e) => {
+            put_word(out, Word::Get)?;
+            put_mark(out, Mark::OpenParen)?;
+            print_expr(alloc, out, e)?;
+            put_mark(out, Mark::CloseParen)
+        }
+        ExprForm::Now => {
+            put_word(out, Word::Now)?;
+            put_mark(out, Mark::OpenParen)?;
+            put_mark(out, Mark::CloseParen)
+        }
+        ExprForm::Insert(table, e) => {
+            put_word(out, Word::Insert)?;
+            put_mark(out, Mark::OpenParen)?;
+            put_name(out, table)?;
+            put_mark(out, Mark::Comma)?;
+            print_expr(alloc, out, e)?;
+            put_mark(out, Mark::CloseParen)
+        }
+        ExprForm::Delete(e) => {
+            put_word(out, Word::Delete)?;
+            put_mark(out, Mark::OpenParen)?;
+            print_expr(alloc, out, e)?;
+            put_mark(out, Mark::CloseParen)
+        }
+        ExprForm::Patch(e, o) => {
+            put_word(out, Word::Patch)?;
+            put_mark(out, Mark::OpenParen)?;
+            print_expr(alloc, out, e)?;
+            put_mark(out, Mark::Comma)?;
+            print_expr(alloc, out, o)?;
+            put_mark(out, Mark::CloseParen)
+        }
+        ExprForm::Replace(e, o) => {
+            put_word(out, Word::Replace)?;
+            put_mark(out, Mark::OpenParen)?;
+            print_expr(alloc, out, e)?;
+            put_mark(out, Mark::Comma)?;
+            print_expr(alloc, out, o)?;
+            put_mark(out, Mark::CloseParen)
+        }
+        ExprForm::Field(e, name) => {
+            print_expr(alloc, out, e)?;
+            put_mark(out, Mark::Dot)?;
+            put_name(out, name)
+        }
+        ExprForm::Item(e, i) => {
+            print_expr(alloc, out, e)?;
+            put_mark(out, Mark::OpenBracket)?;
+            print_expr(alloc, out, i)?;
+            put_mark(out, Mark::CloseBracket)
+        }
+        ExprForm::Unary(op, e) => {
+            put_mark(out, sign_mark(*op))?;
+            print_expr(alloc, out, e)
+        }
+        ExprForm::Binary(op, a, b) => {
+            print_expr(alloc, out, a)?;
+            put_mark(out, operator_mark(*op))?;
+            print_expr(alloc, out, b)
+        }
+    }
+}
+
+// Appends a comma, but for the first of some parts.
+fn put_comma(out: &mut String, first: bool) -> Result<(), Memory>
+    ensures { IfOk result (λ done. string_bytes out.new ≡ string_bytes out.old ++ comma first) }
+{
+    if first {
+        return Ok(());
+    }
+    put_mark(out, Mark::Comma)
+}
+
+#[cycle(print_expr)]
+fn print_exprs(alloc: Global, out: &mut String, es: &[Expr]) -> Result<(), Memory>
+    ensures { IfOk result
+        (λ done. string_bytes out.new ≡ string_bytes out.old ++ exprs_text true (exprs_of (map expr_view es.now))) }
+{
+    let mut first = true;
+    for e in es {
+        put_comma(out, first)?;
+        print_expr(alloc, out, e)?;
+        first = false;
+    }
+    Ok(())
+}
+
+#[cycle(print_expr)]
+fn print_entries(alloc: Global, out: &mut String, es: &[(Named, Expr)]) -> Result<(), Memory>
+    ensures { IfOk result
+        (λ done. string_bytes out.new
+            ≡ string_bytes out.old ++ entries_text true (entries_of (map (λ p. (p.0, expr_view p.1)) es.now))) }
+{
+    let mut first = true;
+    for (name, e) in es {
+        put_comma(out, first)?;
+        put_name(out, name)?;
+        put_mark(out, Mark::Colon)?;
+        print_expr(alloc, out, e)?;
+        first = false;
+    }
+    Ok(())
+}
+
+#[cycle(print_expr)]
+fn print_bounds(alloc: Global, out: &mut String, bounds: &[BoundExpr]) -> Result<(), Memory>
+    ensures { IfOk result
+        (λ done. string_bytes out.new
+            ≡ string_bytes out.old ++ bounds_text (bounds_of (map bound_view bounds.now))) }
+{
+    for bound in bounds {
+        put_mark(out, Mark::Comma)?;
+        put_name(out, &bound.field)?;
+        put_mark(out, comparison_mark(bound.op))?;
+        print_expr(alloc, out, &bound.value)?;
+    }
+    Ok(())
+}
+
+fn put_order(out: &mut String, desc: bool) -> Result<(), Memory>
+    ensures { IfOk result
+        (λ done. string_bytes out.new ≡ string_bytes out.old ++ order_text desc) }
+{
+    if desc {
+        return put_word(out, Word::Desc);
+    }
+    Ok(())
+}
+
+#[cycle(print_expr)]
+fn print_limit(alloc: Global, out: &mut String, take: &Option<Expr>) -> Result<(), Memory>
+    ensures { IfOk result
+        (λ done. string_bytes out.new
+            ≡ string_bytes out.old ++ limit_text (limit_of (option_map expr_view take.now))) }
+{
+    match take {
+        None => Ok(()),
+        Some(e) => {
+            put_word(out, Word::Take)?;
+            put_mark(out, Mark::OpenParen)?;
+            print_expr(alloc, out, e)?;
+            put_mark(out, Mark::CloseParen)
+        }
+    }
+}
