@@ -44,7 +44,7 @@ abbrev pub quoted : List ℕ → List ℕ
 quoted text = codes "\"" ++ flat_map escaped text ++ codes "\""
 
 -- a name, which is a string where it was written as one
-abbrev pub name_text : Named → List ℕ
+unfoldable pub name_text : Named → List ℕ
 name_text n = token (if n.quoted then quoted n.text else n.text)
 
 -- a slash or a colon with a blank on each side

@@ -25,6 +25,7 @@ pub use laws::{
     at_most_one_module, legal_histories, tokens_of_texts, worked_histories, worked_tokens,
 };
 pub use lexeme::{Lexeme, Mark, Terminal, Word};
+pub use printer::print;
 pub use syntax::{
     BinaryOp, BoundExpr, Builtin, CompareOp, Expr, ExprForm, Function, IndexDecl, Kind, Module,
     Named, Stmt, StmtForm, TableDecl, UnaryOp,

@@ -30,6 +30,16 @@ pub fn put_mark(out: &mut String, mark: Mark) -> Result<(), Memory>
     put_token(out, mark.spelling())
 }
 
+/// Appends a comma, but for the first of some parts.
+pub fn put_comma(out: &mut String, first: bool) -> Result<(), Memory>
+    ensures { IfOk result (λ done. string_bytes out.new ≡ string_bytes out.old ++ canonical.comma first) }
+{
+    if first {
+        return Ok(());
+    }
+    put_mark(out, Mark::Comma)
+}
+
 pub fn put_integer(alloc: Global, out: &mut String, n: i64) -> Result<(), Memory>
     ensures { IfOk result
         (λ done. string_bytes out.new ≡ string_bytes out.old ++ token (signed_decimal n)) }
@@ -74,6 +84,7 @@ fn put_escaped_char(out: &mut String, c: char) -> Result<(), Memory>
     Ok(())
 }
 
+#[tactic(auto, unfolding(crate::specs::Canonical::name_text))]
 pub fn put_name(out: &mut String, name: &Named) -> Result<(), Memory>
     ensures { IfOk result
         (λ done. string_bytes out.new ≡ string_bytes out.old ++ name_text name.now) }

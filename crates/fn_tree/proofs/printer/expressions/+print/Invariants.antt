@@ -1,7 +1,7 @@
 use Rattle.std.proofs.Common.{◌≡◌, ◌++◌, string_bytes, map, drop, true}
 use Rattle.fn_tree.specs.Canonical.{exprs_text, entries_text, bounds_text}
 use Rattle.fn_tree.specs.SyntaxViews.{expr_view, bound_view, exprs_of, entries_of, bounds_of}
-use Rattle.fn_tree.proofs.printer.expressions.+print_expr.Given as goal
+use Rattle.fn_tree.proofs.printer.expressions.+print.Given as goal
 
 -- with what is left it is the whole
 abbrev pub invariant-print_exprs-loop-e : goal.invariant-print_exprs-loop-e
