@@ -1,7 +1,7 @@
 ghost use Rattle.std.specs.Prelude.{◌≡◌, ◌++◌, IfOk, string_bytes, map};
 ghost use Rattle.fn_tree.specs.Canonical as canonical;
-ghost use Rattle.fn_tree.specs.Canonical.{mark, name_text, act_text, stmt_text, block_text, else_text};
-ghost use Rattle.fn_tree.specs.SyntaxViews.{stmt_view, act_view, stmts_of, else_view};
+ghost use Rattle.fn_tree.specs.Canonical.{mark, name_text, act_text, stmt_text, block_text};
+ghost use Rattle.fn_tree.specs.SyntaxViews.{stmt_view, act_view, stmts_of};
 ghost use Rattle.fn_tree.specs.declared.lexeme.Mark.TheVariants.{OpenParen, Assign};
 ghost use Rattle.fn_tree.specs.declared.lexeme.Word.TheVariants.{For, In};
 
@@ -46,7 +46,13 @@ fn print_act(alloc: Global, out: &mut String, act: &StmtForm) -> Result<(), Memo
             print_expr(alloc, out, e)?;
             put_mark(out, Mark::CloseParen)?;
             print_block(alloc, out, then)?;
-            print_else(alloc, out, otherwise)
+            match otherwise {
+                None => Ok(()),
+                Some(stmts) => {
+                    put_word(out, Word::Else)?;
+                    print_block(alloc, out, stmts)
+                }
+            }
         }
         StmtForm::For(name, e, body) => {
             put_each(out, name)?;
@@ -98,22 +104,4 @@ pub fn print_block(alloc: Global, out: &mut String, stmts: &[Stmt]) -> Result<()
         print_stmt(alloc, out, stmt)?;
     }
     put_mark(out, Mark::CloseBrace)
-}
-
-#[cycle(print)]
-fn print_else(
-    alloc: Global,
-    out: &mut String,
-    otherwise: &Option<Vec<Stmt>>,
-) -> Result<(), Memory>
-    ensures { IfOk result
-        (λ done. string_bytes out.new ≡ string_bytes out.old ++ else_text (else_view otherwise.now)) }
-{
-    match otherwise {
-        None => Ok(()),
-        Some(stmts) => {
-            put_word(out, Word::Else)?;
-            print_block(alloc, out, stmts)
-        }
-    }
 }
