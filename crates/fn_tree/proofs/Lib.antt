@@ -2,7 +2,6 @@ pub mod AsciiEnds
 pub mod Begins
 pub mod Characters
 pub mod Follows
-pub mod FormTexts
 pub mod FormViews
 pub mod Frames
 pub mod Fronts

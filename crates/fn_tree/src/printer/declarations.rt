@@ -1,4 +1,4 @@
-ghost use Rattle.std.specs.Prelude.{◌≡◌, ◌++◌, IfOk, string_bytes, map, true, codes};
+ghost use Rattle.std.specs.Prelude.{◌≡◌, ◌++◌, IfOk, string_bytes, map, true};
 ghost use Rattle.std.specs.List.{flat_map};
 ghost use Rattle.fn_tree.specs.Canonical.{mark, names_text, kind_word, index_text, table_text, function_text, canonical_text};
 ghost use Rattle.fn_tree.specs.SyntaxViews.{index_view, table_view, function_view, module_view};
@@ -6,7 +6,7 @@ ghost use Rattle.fn_tree.specs.declared.lexeme.Mark.TheVariants.{OpenParen, Clos
 
 use crate::lexeme::{Mark, Word};
 use crate::printer::statements::print_block;
-use crate::printer::tokens::{put_comma, put_mark, put_name, put_path, put_word};
+use crate::printer::tokens::{put_comma, put_end, put_mark, put_name, put_path, put_word};
 use crate::syntax::{Function, IndexDecl, Kind, Module, Named, TableDecl};
 use cv_values::{Memory, Text};
 use std::alloc::Global;
@@ -35,7 +35,7 @@ fn print_tables(out: &mut String, tables: &[TableDecl]) -> Result<(), Memory>
 fn print_functions(alloc: Global, out: &mut String, functions: &[Function]) -> Result<(), Memory>
     ensures { IfOk result
         (λ done. string_bytes out.new
-            ≡ string_bytes out.old ++ flat_map function_text (map function_view functions.now)) }
+        ≡ string_bytes out.old ++ flat_map function_text (map function_view functions.now)) }
 {
     for function in functions {
         print_function(alloc, out, function)?;
@@ -52,7 +52,7 @@ fn print_table(out: &mut String, table: &TableDecl) -> Result<(), Memory>
     put_mark(out, Mark::OpenBrace)?;
     print_indexes(out, &table.indexes)?;
     put_mark(out, Mark::CloseBrace)?;
-    out.push('\n')?;
+    put_end(out)?;
     Ok(())
 }
 
@@ -84,7 +84,7 @@ fn print_function(alloc: Global, out: &mut String, function: &Function) -> Resul
     put_path(out, function.udf.as_str())?;
     print_names(out, &function.params)?;
     print_block(alloc, out, &function.body)?;
-    out.push('\n')?;
+    put_end(out)?;
     Ok(())
 }
 
@@ -102,7 +102,7 @@ fn kind_word(kind: Kind) -> Word
 fn print_names(out: &mut String, names: &[Named]) -> Result<(), Memory>
     ensures { IfOk result
         (λ done. string_bytes out.new ≡ string_bytes out.old
-            ++ mark OpenParen ++ names_text true names.now ++ mark CloseParen) }
+        ++ mark OpenParen ++ names_text true names.now ++ mark CloseParen) }
 {
     put_mark(out, Mark::OpenParen)?;
     let mut first = true;

@@ -7,7 +7,9 @@ ghost use Rattle.fn_tree.specs.declared.lexeme.Mark.TheVariants.{OpenParen, Clos
 ghost use Rattle.fn_tree.specs.declared.lexeme.Word.TheVariants.{Scan, Count, Now, Insert};
 
 use crate::lexeme::{Mark, Word};
-use crate::printer::tokens::{put_comma, put_integer, put_mark, put_name, put_string, put_token, put_word};
+use crate::printer::tokens::{
+    put_comma, put_integer, put_mark, put_name, put_string, put_token, put_word,
+};
 use crate::syntax::{BinaryOp, BoundExpr, Builtin, CompareOp, Expr, ExprForm, Named, UnaryOp};
 use cv_values::Memory;
 use std::alloc::Global;
@@ -180,7 +182,7 @@ pub fn put_open(out: &mut String, word: Word) -> Result<(), Memory>
 fn put_scan(out: &mut String, table: &Named, index: &Named) -> Result<(), Memory>
     ensures { IfOk result
         (λ done. string_bytes out.new ≡ string_bytes out.old
-            ++ canonical.word Scan ++ mark OpenParen ++ name_text table.now ++ mark Comma ++ name_text index.now) }
+        ++ canonical.word Scan ++ mark OpenParen ++ name_text table.now ++ mark Comma ++ name_text index.now) }
 {
     put_open(out, Word::Scan)?;
     put_name(out, table)?;
@@ -191,7 +193,7 @@ fn put_scan(out: &mut String, table: &Named, index: &Named) -> Result<(), Memory
 fn put_count(out: &mut String, table: &Named) -> Result<(), Memory>
     ensures { IfOk result
         (λ done. string_bytes out.new ≡ string_bytes out.old
-            ++ canonical.word Count ++ mark OpenParen ++ name_text table.now ++ mark CloseParen) }
+        ++ canonical.word Count ++ mark OpenParen ++ name_text table.now ++ mark CloseParen) }
 {
     put_open(out, Word::Count)?;
     put_name(out, table)?;
@@ -201,7 +203,7 @@ fn put_count(out: &mut String, table: &Named) -> Result<(), Memory>
 fn put_now(out: &mut String) -> Result<(), Memory>
     ensures { IfOk result
         (λ done. string_bytes out.new ≡ string_bytes out.old
-            ++ canonical.word Now ++ mark OpenParen ++ mark CloseParen) }
+        ++ canonical.word Now ++ mark OpenParen ++ mark CloseParen) }
 {
     put_open(out, Word::Now)?;
     put_mark(out, Mark::CloseParen)
@@ -210,7 +212,7 @@ fn put_now(out: &mut String) -> Result<(), Memory>
 fn put_insert(out: &mut String, table: &Named) -> Result<(), Memory>
     ensures { IfOk result
         (λ done. string_bytes out.new ≡ string_bytes out.old
-            ++ canonical.word Insert ++ mark OpenParen ++ name_text table.now ++ mark Comma) }
+        ++ canonical.word Insert ++ mark OpenParen ++ name_text table.now ++ mark Comma) }
 {
     put_open(out, Word::Insert)?;
     put_name(out, table)?;
@@ -228,7 +230,7 @@ fn print_exprs(
 ) -> Result<(), Memory>
     ensures { IfOk result
         (λ done. string_bytes out.new ≡ string_bytes out.old
-            ++ mark opening ++ exprs_text true (exprs_of (map expr_view es.now)) ++ mark closing) }
+        ++ mark opening ++ exprs_text true (exprs_of (map expr_view es.now)) ++ mark closing) }
 {
     put_mark(out, opening)?;
     let mut first = true;
@@ -244,7 +246,7 @@ fn print_exprs(
 fn print_entries(alloc: Global, out: &mut String, es: &[(Named, Expr)]) -> Result<(), Memory>
     ensures { IfOk result
         (λ done. string_bytes out.new ≡ string_bytes out.old ++ mark OpenBrace
-            ++ entries_text true (entries_of (map (λ p. (p.0, expr_view p.1)) es.now)) ++ mark CloseBrace) }
+        ++ entries_text true (entries_of (map (λ p. (p.0, expr_view p.1)) es.now)) ++ mark CloseBrace) }
 {
     put_mark(out, Mark::OpenBrace)?;
     let mut first = true;
@@ -262,7 +264,7 @@ fn print_entries(alloc: Global, out: &mut String, es: &[(Named, Expr)]) -> Resul
 fn print_bounds(alloc: Global, out: &mut String, bounds: &[BoundExpr]) -> Result<(), Memory>
     ensures { IfOk result
         (λ done. string_bytes out.new
-            ≡ string_bytes out.old ++ bounds_text (bounds_of (map bound_view bounds.now))) }
+        ≡ string_bytes out.old ++ bounds_text (bounds_of (map bound_view bounds.now))) }
 {
     for bound in bounds {
         put_mark(out, Mark::Comma)?;
@@ -289,7 +291,7 @@ fn put_order(out: &mut String, desc: bool) -> Result<(), Memory>
 fn print_limit(alloc: Global, out: &mut String, take: &Option<Expr>) -> Result<(), Memory>
     ensures { IfOk result
         (λ done. string_bytes out.new
-            ≡ string_bytes out.old ++ limit_text (limit_of (option_map expr_view take.now))) }
+        ≡ string_bytes out.old ++ limit_text (limit_of (option_map expr_view take.now))) }
 {
     match take {
         None => Ok(()),

@@ -86,7 +86,7 @@ fn put_assigned(out: &mut String, name: &Named) -> Result<(), Memory>
 fn put_each(out: &mut String, name: &Named) -> Result<(), Memory>
     ensures { IfOk result
         (λ done. string_bytes out.new ≡ string_bytes out.old
-            ++ canonical.word For ++ mark OpenParen ++ name_text name.now ++ canonical.word In) }
+        ++ canonical.word For ++ mark OpenParen ++ name_text name.now ++ canonical.word In) }
 {
     put_open(out, Word::For)?;
     put_name(out, name)?;

@@ -1,4 +1,4 @@
-ghost use Rattle.std.specs.Prelude.{◌≡◌, ◌++◌, IfOk, string_bytes, encode_utf8};
+ghost use Rattle.std.specs.Prelude.{◌≡◌, ◌++◌, IfOk, string_bytes, encode_utf8, codes};
 ghost use Rattle.fn_tree.specs.Canonical as canonical;
 ghost use Rattle.fn_tree.specs.Canonical.{token, escaped, quoted, name_text, path_text, apart};
 ghost use Rattle.std.specs.Fmt.{signed_decimal};
@@ -9,7 +9,7 @@ use crate::syntax::Named;
 use cv_values::Memory;
 use std::alloc::Global;
 
-// Appends a token, with a blank before it.
+/// Appends a token, with a blank before it.
 pub fn put_token(out: &mut String, text: &str) -> Result<(), Memory>
     ensures { IfOk result (λ done. string_bytes out.new ≡ string_bytes out.old ++ token text.now) }
 {
@@ -38,6 +38,14 @@ pub fn put_comma(out: &mut String, first: bool) -> Result<(), Memory>
         return Ok(());
     }
     put_mark(out, Mark::Comma)
+}
+
+/// Appends the line feed behind a table or a function.
+pub fn put_end(out: &mut String) -> Result<(), Memory>
+    ensures { IfOk result (λ done. string_bytes out.new ≡ string_bytes out.old ++ codes "\n") }
+{
+    out.push('\n')?;
+    Ok(())
 }
 
 pub fn put_integer(alloc: Global, out: &mut String, n: i64) -> Result<(), Memory>
