@@ -1,3 +1,5 @@
+pub mod Again
+pub mod Alike
 pub mod AsciiEnds
 pub mod Begins
 pub mod Characters
@@ -11,6 +13,8 @@ pub mod Legal
 pub mod ModuleTexts
 pub mod OriginOfIds
 pub mod Places
+pub mod Relexed
+pub mod StringsAgain
 pub mod StringsSay
 pub mod Tables
 pub mod TokenTexts
