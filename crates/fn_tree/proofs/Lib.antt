@@ -1,5 +1,8 @@
+pub mod Again
+pub mod Alike
 pub mod AsciiEnds
 pub mod Begins
+pub mod Characters
 pub mod Follows
 pub mod FormViews
 pub mod Frames
@@ -10,6 +13,8 @@ pub mod Legal
 pub mod ModuleTexts
 pub mod OriginOfIds
 pub mod Places
+pub mod Relexed
+pub mod StringsAgain
 pub mod StringsSay
 pub mod Tables
 pub mod TokenTexts

@@ -10,7 +10,7 @@ use Rattle.std.proofs.lemmas.Str.Ascii.{IsAscii-nil, IsAscii-cons}
 use Rattle.fn_tree.specs.LexemeValues.{contents, unescaped}
 
 -- no byte is ASCII
-abbrev AreHigh : List ℕ → Type 0
+abbrev pub AreHigh : List ℕ → Type 0
 AreHigh [] = Unit {0}
 AreHigh (b ∷ bs) = (128 ≤ b) × AreHigh bs
 
@@ -28,7 +28,7 @@ pub high_said : (escaped : Bool) (b : ℕ) (bs rest : List ℕ) → AreHigh (b �
 high_said true b bs rest h = high_escaped b bs rest h
 high_said false b bs rest h = high_passes (b ∷ bs) rest h
 
-encode_high : (c : ℕ) → 128 ≤ c → (b : ℕ) × (bs : List ℕ) × (encode c ≡ b ∷ bs) × AreHigh (b ∷ bs)
+pub encode_high : (c : ℕ) → 128 ≤ c → (b : ℕ) × (bs : List ℕ) × (encode c ≡ b ∷ bs) × AreHigh (b ∷ bs)
 unfolding encode
 encode_high c h = elim (leb_tells (suc c) 128) [
   | inl t ↦ absurd (omega (arith, t.1))

@@ -13,6 +13,7 @@ mod entry;
 mod fault;
 mod laws;
 mod lexeme;
+mod printer;
 mod syntax;
 #[cfg(test)]
 mod tests;
@@ -24,6 +25,7 @@ pub use laws::{
     at_most_one_module, legal_histories, tokens_of_texts, worked_histories, worked_tokens,
 };
 pub use lexeme::{Lexeme, Mark, Terminal, Word};
+pub use printer::print;
 pub use syntax::{
     BinaryOp, BoundExpr, Builtin, CompareOp, Expr, ExprForm, Function, IndexDecl, Kind, Module,
     Named, Stmt, StmtForm, TableDecl, UnaryOp,

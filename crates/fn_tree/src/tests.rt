@@ -1,4 +1,7 @@
-use crate::{Call, Entry, Reply};
+use crate::{
+    BinaryOp, Call, Entry, Expr, ExprForm, Function, Kind, Module, Named, Reply, Stmt, StmtForm,
+    TableDecl, print,
+};
 use cv_keys::Write;
 use cv_values::{Doc, DocId, Fields, Memory, Seq, Text, Val};
 use std::alloc::Global;
@@ -52,5 +55,70 @@ fn copies_are_equal(rt: HostRuntime) -> Result<(), Fail> {
         assert_eq!(rt; other.call.request, 2);
         assert_eq!(rt; other.writes.as_slice().len(), 1);
     }
+    Ok(())
+}
+
+fn named(alloc: Global, text: &str) -> Result<Named, Memory> {
+    Ok(Named {
+        at: 0,
+        text: Text::of(alloc, text)?,
+        quoted: false,
+    })
+}
+
+fn expression(alloc: Global, form: ExprForm) -> Result<Expr, Memory> {
+    Expr::new(alloc, 0, form)
+}
+
+// The function of one statement.
+fn function(
+    alloc: Global,
+    kind: Kind,
+    udf: &str,
+    params: Vec<Named>,
+    act: StmtForm,
+) -> Result<Function, Memory> {
+    let mut body = Vec::new(alloc);
+    body.push(Stmt::new(0, act))?;
+    Ok(Function {
+        kind,
+        udf: Text::of(alloc, udf)?,
+        params,
+        body,
+        at: 0,
+    })
+}
+
+#[test]
+fn trees_have_their_canonical_text(rt: HostRuntime) -> Result<(), Fail> {
+    let alloc = rt.alloc();
+    let one = expression(alloc, ExprForm::Int(1))?;
+    let x = expression(alloc, ExprForm::Var(Text::of(alloc, "x")?))?;
+    let sum = expression(alloc, ExprForm::Binary(BinaryOp::Add, x, one))?;
+    let mut params = Vec::new(alloc);
+    params.push(named(alloc, "x")?)?;
+    let add = function(
+        alloc,
+        Kind::Mutation,
+        "m:add",
+        params,
+        StmtForm::Return(sum),
+    )?;
+    let text = Text::of(alloc, "a\"\\\n\té")?;
+    let thrown = StmtForm::Throw(expression(alloc, ExprForm::Str(text))?);
+    let stop = function(alloc, Kind::Helper, "stop", Vec::new(alloc), thrown)?;
+    let mut tables = Vec::new(alloc);
+    tables.push(TableDecl {
+        name: named(alloc, "t")?,
+        indexes: Vec::new(alloc),
+    })?;
+    let mut functions = Vec::new(alloc);
+    functions.push(add)?;
+    functions.push(stop)?;
+    let printed = print(alloc, &Module { tables, functions })?;
+    assert_eq!(rt;
+        printed.as_str(),
+        "table t { }\nmutation m : add ( x ) { return x + 1 ; }\nhelper stop ( ) { throw \"a\\\"\\\\\\n\\té\" ; }\n"
+    );
     Ok(())
 }
