@@ -1,0 +1,12 @@
+//! The checks of a module: names and their scopes, numbers of arguments, tables and indexes, bounds, and
+//! what a query may not do.
+#![tactic(auto)]
+
+mod bounds;
+mod effects;
+mod expression;
+mod fault;
+mod scope;
+mod statement;
+
+pub use fault::{CheckFault, CheckKind};
