@@ -4,7 +4,7 @@ use Rattle.fn_check.specs.Known.{Known, helper_of}
 use Rattle.fn_check.specs.declared.effects.Effect.{Effect}
 use Rattle.fn_check.specs.declared.effects.Effect.TheVariants.{Write, Now}
 use Rattle.fn_check.specs.declared.scope.Helper.{Helper}
-use Rattle.fn_tree.specs.SyntaxTree.{Expr, expr, Form, integer, string, truth, nothing, variable, call, builtin, items, entries, group, scan, count, get, now, insert, delete, patch, replace, field, item, unary, binary, Exprs, no_exprs, then_expr, Entries, no_entries, entry, Bounds, no_bounds, bound, Limit, all_rows, up_to}
+use Rattle.fn_tree.specs.SyntaxTree.{Expr, expr, Form, integer, string, truth, nothing, variable, call, builtin, items, entries, group, scan, count, get, now, insert, delete, patch, replace, field, item, unary, binary, Exprs, no_exprs, then_expr, Entries, no_entries, entry, Bounds, no_bounds, bound, Limit, all_rows, up_to, Stmt, stmt, Act, declare, assign, evaluate, choose, each, give_back, throw, Stmts, no_stmts, then_stmt, Else, no_else, or_else}
 
 abbrev pub is_write : Effect → Bool
 is_write Write = true
@@ -63,3 +63,25 @@ abbrev mutual
   pub limit_does : Effect → Known → Limit → Bool
   limit_does effect known all_rows = false
   limit_does effect known (up_to e) = expr_does effect known e
+
+abbrev mutual
+  pub stmt_does : Effect → Known → Stmt → Bool
+  stmt_does effect known (stmt at act) = act_does effect known act
+
+  pub act_does : Effect → Known → Act → Bool
+  act_does effect known (declare n e) = expr_does effect known e
+  act_does effect known (assign n e) = expr_does effect known e
+  act_does effect known (evaluate e) = expr_does effect known e
+  act_does effect known (choose e a b) = expr_does effect known e || stmts_do effect known a || else_does effect known b
+  act_does effect known (each n e body) = expr_does effect known e || stmts_do effect known body
+  act_does effect known (give_back e) = expr_does effect known e
+  act_does effect known (throw e) = expr_does effect known e
+
+  -- whether statements have the effect
+  pub stmts_do : Effect → Known → Stmts → Bool
+  stmts_do effect known no_stmts = false
+  stmts_do effect known (then_stmt s ss) = stmt_does effect known s || stmts_do effect known ss
+
+  pub else_does : Effect → Known → Else → Bool
+  else_does effect known no_else = false
+  else_does effect known (or_else ss) = stmts_do effect known ss

@@ -1,12 +1,12 @@
 //! What a function does that a query may not do.
 ghost use Rattle.std.specs.Prelude.{◌≡◌, map};
 ghost use Rattle.std.specs.Option.{option_map};
-ghost use Rattle.fn_check.specs.Effects.{is_write, is_now, helper_does, expr_does, exprs_do, entries_do, bounds_do, limit_does};
-ghost use Rattle.fn_tree.specs.SyntaxViews.{expr_view, bound_view, exprs_of, entries_of, bounds_of, limit_of};
+ghost use Rattle.fn_check.specs.Effects.{is_write, is_now, helper_does, expr_does, exprs_do, entries_do, bounds_do, limit_does, stmt_does, stmts_do};
+ghost use Rattle.fn_tree.specs.SyntaxViews.{expr_view, bound_view, exprs_of, entries_of, bounds_of, limit_of, stmt_view, stmts_of};
 
 use crate::scope::{Helper, Scope};
 use cv_values::Text;
-use fn_tree::{BoundExpr, Expr, ExprForm, Named};
+use fn_tree::{BoundExpr, Expr, ExprForm, Named, Stmt, StmtForm};
 
 /// What a query may not do.
 #[derive(Clone, Copy, Debug, PartialEq, Eq)]
@@ -114,5 +114,41 @@ fn limit_does(effect: Effect, scope: &Scope, take: &Option<Expr>) -> bool
     match take {
         None => false,
         Some(e) => expr_does(effect, scope, e),
+    }
+}
+
+/// Whether statements have the effect.
+#[cycle(statement_effects)]
+pub(crate) fn stmts_do(effect: Effect, scope: &Scope, stmts: &[Stmt]) -> bool
+    ensures { result ≡ stmts_do effect scope.now (stmts_of (map stmt_view stmts.now)) }
+{
+    for stmt in stmts {
+        if stmt_does(effect, scope, stmt) {
+            return true;
+        }
+    }
+    false
+}
+
+#[cycle(statement_effects)]
+fn stmt_does(effect: Effect, scope: &Scope, stmt: &Stmt) -> bool
+    ensures { result ≡ stmt_does effect scope.now (stmt_view stmt.now) }
+{
+    match &stmt.form {
+        StmtForm::Let(_, e) | StmtForm::Assign(_, e) => expr_does(effect, scope, e),
+        StmtForm::Eval(e) | StmtForm::Return(e) | StmtForm::Throw(e) => {
+            expr_does(effect, scope, e)
+        }
+        StmtForm::If(test, chosen, None) => {
+            expr_does(effect, scope, test) || stmts_do(effect, scope, chosen)
+        }
+        StmtForm::If(test, chosen, Some(other)) => {
+            expr_does(effect, scope, test)
+                || stmts_do(effect, scope, chosen)
+                || stmts_do(effect, scope, other)
+        }
+        StmtForm::For(_, items, body) => {
+            expr_does(effect, scope, items) || stmts_do(effect, scope, body)
+        }
     }
 }

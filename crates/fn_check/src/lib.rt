@@ -6,7 +6,10 @@ mod bounds;
 mod effects;
 mod expression;
 mod fault;
+mod function;
+mod schema;
 mod scope;
 mod statement;
+mod table;
 
 pub use fault::{CheckFault, CheckKind};

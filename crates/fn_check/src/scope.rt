@@ -2,9 +2,11 @@
 ghost use Rattle.std.specs.Prelude.{◌≡◌, [], OnOk, Option, option_map, map};
 ghost use Rattle.std.specs.Option.{option_copied};
 ghost use Rattle.fn_check.specs.Known.{Known, Names, is_visible, any_has, with_name, with_visible, inner, helper_of, table_of, index_of};
+ghost use Rattle.fn_check.specs.Functions.{known_first, begun, completed};
 
 use cv_keys::{Index, Schema, Table};
 use cv_values::{Memory, Text};
+use fn_tree::Kind;
 use std::alloc::Global;
 use std::collections::{BTreeMap, BTreeSet};
 use std::marker::Model;
@@ -65,6 +67,46 @@ impl Scope {
         ensures { option_copied result ≡ table_of self.now name.now }
     {
         self.schema.tables.as_slice().iter().find(|table| table.name == *name)
+    }
+
+    /// Before the first function.
+    pub fn new(alloc: Global, schema: Schema) -> Scope
+        ensures { result ≡ known_first schema }
+    {
+        Scope {
+            schema,
+            helpers: BTreeMap::new(alloc),
+            query: false,
+            here: BTreeSet::new(alloc),
+            outer: Vec::new(alloc),
+        }
+    }
+
+    /// The schema, where no more is checked.
+    pub fn into_schema(self) -> Schema
+        ensures { result ≡ self.schema }
+    {
+        let Scope { schema, .. } = self;
+        schema
+    }
+
+    /// Begins a query or something else, with no name visible.
+    pub fn begin(&mut self, alloc: Global, query: bool)
+        ensures { self.new ≡ begun self.old query }
+    {
+        self.query = query;
+        self.here = BTreeSet::new(alloc);
+        self.outer = Vec::new(alloc);
+    }
+
+    /// Completes a function of a kind. A helper can be called from now on.
+    pub fn complete(&mut self, alloc: Global, kind: Kind, name: &Text, helper: Helper) -> Result<(), Memory>
+        ensures { OnOk result (self.new ≡ completed kind self.old name.now helper) }
+    {
+        if matches!(kind, Kind::Helper) {
+            self.helpers.insert(name.copy(alloc)?, helper)?;
+        }
+        Ok(())
     }
 
     /// Makes a name visible to the end of the block.
