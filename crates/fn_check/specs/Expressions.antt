@@ -107,8 +107,9 @@ abbrev mutual
   bounds_fault known fields so_far no_bounds = None
   bounds_fault known fields so_far (bound f op e bs) =
       elim (next_bound fields so_far f.text op) [
-        None ↦ Some (record { at = f.at; kind = BadBound })
-      | Some next ↦ expr_fault known e before bounds_fault known fields next bs ]
+        | None ↦ Some (record { at = f.at; kind = BadBound })
+        | Some next ↦ expr_fault known e before bounds_fault known fields next bs
+      ]
 
   pub limit_fault : Known → Limit → First
   limit_fault known all_rows = None

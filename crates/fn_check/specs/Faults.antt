@@ -6,7 +6,6 @@ use Rattle.fn_check.specs.declared.fault.Stop.{Stop}
 use Rattle.fn_check.specs.declared.fault.Stop.TheVariants.{Fault, Memory}
 
 infixr 20 ◌before◌
-
 -- the first fault of two parts, of which the left one stands before the right one
 abbrev pub ◌before◌ : Option CheckFault → Option CheckFault → Option CheckFault
 None before later = later

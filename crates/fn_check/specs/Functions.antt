@@ -32,9 +32,12 @@ abbrev pub params_fault : Known → List Named → First
 params_fault known [] = None
 params_fault known (p ∷ ps) = declare_fault known p before params_fault (with_visible known p.text) ps
 
+abbrev pub with_names : Names → List Named → Names
+with_names names [] = names
+with_names names (p ∷ ps) = with_names (with_name names p.text) ps
+
 abbrev pub with_params : Known → List Named → Known
-with_params known [] = known
-with_params known (p ∷ ps) = with_params (with_visible known p.text) ps
+with_params known ps = record known { here = with_names known.here ps }
 
 -- parameters and body, where so much is known
 abbrev pub body_fault : Known → FunctionTree → First
@@ -44,11 +47,14 @@ body_fault known f = params_fault known f.params before stmts_fault (with_params
 abbrev pub helper_made : Known → FunctionTree → Helper
 helper_made known f = record { params = length f.params; writes = stmts_do Write known f.body; uses_now = stmts_do Now known f.body }
 
--- what is known when a function of a kind is complete
+-- the helpers when a function of a kind is complete
+abbrev pub helpers_with : Kind → List (List ℕ × Helper) → List ℕ → Helper → List (List ℕ × Helper)
+helpers_with Query helpers name h = helpers
+helpers_with Mutation helpers name h = helpers
+helpers_with Helping helpers name h = insert_entry text_cmp helpers name h
+
 abbrev pub completed : Kind → Known → List ℕ → Helper → Known
-completed Query known name h = known
-completed Mutation known name h = known
-completed Helping known name h = record known { helpers = insert_entry text_cmp known.helpers name h }
+completed kind known name h = record known { helpers = helpers_with kind known.helpers name h }
 
 -- what is known behind a function
 abbrev pub known_behind : Known → FunctionTree → Known

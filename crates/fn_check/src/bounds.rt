@@ -61,8 +61,14 @@ impl Bounded {
         match op {
             CompareOp::Equal => self.with_equality(fields),
             CompareOp::NotEqual => Some(self),
-            CompareOp::Less | CompareOp::LessEqual => Some(Bounded { upper: true, ..self }),
-            CompareOp::Greater | CompareOp::GreaterEqual => Some(Bounded { lower: true, ..self }),
+            CompareOp::Less | CompareOp::LessEqual => Some(Bounded {
+                upper: true,
+                ..self
+            }),
+            CompareOp::Greater | CompareOp::GreaterEqual => Some(Bounded {
+                lower: true,
+                ..self
+            }),
         }
     }
 }

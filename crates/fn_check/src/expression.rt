@@ -154,18 +154,34 @@ fn check_entries(alloc: Global, scope: &Scope, entries: &[(Named, Expr)]) -> Res
 }
 
 #[cycle(expressions)]
-fn check_entry(alloc: Global, scope: &Scope, seen: &mut BTreeSet<Text>, name: &Named, value: &Expr) -> Result<(), Stop>
+fn check_entry(
+    alloc: Global,
+    scope: &Scope,
+    seen: &mut BTreeSet<Text>,
+    name: &Named,
+    value: &Expr,
+) -> Result<(), Stop>
     ensures fault { Tells result (fault_if (has_name seen.old.keys name.now.text) name.now.at CheckKind.DuplicateField before expr_fault scope.now (expr_view value.now)) }
     ensures seen { OnOk result (seen.new.keys ≡ with_name seen.old.keys name.now.text) }
 {
-    refuse_if(seen.contains(&name.text), name.at, CheckKind::DuplicateField)?;
+    refuse_if(
+        seen.contains(&name.text),
+        name.at,
+        CheckKind::DuplicateField,
+    )?;
     check_expr(alloc, scope, value)?;
     add_name(alloc, seen, &name.text)?;
     Ok(())
 }
 
 #[cycle(expressions)]
-fn check_rows(alloc: Global, scope: &Scope, table: &Named, index: &Named, bounds: &[BoundExpr]) -> Result<(), Stop>
+fn check_rows(
+    alloc: Global,
+    scope: &Scope,
+    table: &Named,
+    index: &Named,
+    bounds: &[BoundExpr],
+) -> Result<(), Stop>
     ensures { Tells result (table_fault scope.now table.now before index_fault scope.now table.now index.now before bounds_fault scope.now (scan_fields scope.now table.now index.now) unbounded (bounds_of (map bound_view bounds.now))) }
 {
     let Some(rows) = scope.table(&table.text) else {
@@ -178,7 +194,12 @@ fn check_rows(alloc: Global, scope: &Scope, table: &Named, index: &Named, bounds
 }
 
 #[cycle(expressions)]
-fn check_bounds(alloc: Global, scope: &Scope, fields: &[Text], bounds: &[BoundExpr]) -> Result<(), Stop>
+fn check_bounds(
+    alloc: Global,
+    scope: &Scope,
+    fields: &[Text],
+    bounds: &[BoundExpr],
+) -> Result<(), Stop>
     ensures { Tells result (bounds_fault scope.now fields.now unbounded (bounds_of (map bound_view bounds.now))) }
 {
     let mut so_far = Bounded::new();

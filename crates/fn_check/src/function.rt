@@ -60,7 +60,12 @@ fn is_taken(kind: Kind, scope: &Scope, names: &BTreeSet<Text>, udf: &Text) -> bo
     }
 }
 
-fn check_name(scope: &Scope, names: &BTreeSet<Text>, count: usize, function: &Function) -> Result<(), Stop>
+fn check_name(
+    scope: &Scope,
+    names: &BTreeSet<Text>,
+    count: usize,
+    function: &Function,
+) -> Result<(), Stop>
     ensures { Tells result (name_fault scope.now names.now.keys count (function_view function.now)) }
 {
     let taken = is_taken(function.kind, scope, names, &function.udf);
@@ -99,8 +104,13 @@ fn check_function(
 }
 
 /// The checks of all functions.
-pub(crate) fn check_functions(alloc: Global, scope: &mut Scope, functions: &[Function]) -> Result<(), Stop>
-    ensures { Tells result (functions_fault scope.old [] 0 (map function_view functions.now)) }
+pub(crate) fn check_functions(
+    alloc: Global,
+    scope: &mut Scope,
+    functions: &[Function],
+) -> Result<(), Stop>
+    ensures fault { Tells result (functions_fault scope.old [] 0 (map function_view functions.now)) }
+    ensures schema { OnOk result (scope.new.schema ≡ scope.old.schema) }
 {
     let mut names = BTreeSet::new(alloc);
     for (count, function) in functions.iter().enumerate() {

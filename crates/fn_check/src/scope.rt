@@ -39,11 +39,11 @@ impl Model for Scope {
     ghost Value = { Known };
 
     ghost view = { λ s. record {
-        schema = s.schema;
-        helpers = s.helpers.entries;
-        query = s.query;
-        here = s.here.keys;
-        outer = map (λ b. b.keys) s.outer.items;
+      schema = s.schema;
+      helpers = s.helpers.entries;
+      query = s.query;
+      here = s.here.keys;
+      outer = map (λ b. b.keys) s.outer.items;
     } };
 }
 
@@ -66,7 +66,11 @@ impl Scope {
     pub fn table(&self, name: &Text) -> Option<&Table>
         ensures { option_copied result ≡ table_of self.now name.now }
     {
-        self.schema.tables.as_slice().iter().find(|table| table.name == *name)
+        self.schema
+            .tables
+            .as_slice()
+            .iter()
+            .find(|table| table.name == *name)
     }
 
     /// Before the first function.
@@ -100,7 +104,13 @@ impl Scope {
     }
 
     /// Completes a function of a kind. A helper can be called from now on.
-    pub fn complete(&mut self, alloc: Global, kind: Kind, name: &Text, helper: Helper) -> Result<(), Memory>
+    pub fn complete(
+        &mut self,
+        alloc: Global,
+        kind: Kind,
+        name: &Text,
+        helper: Helper,
+    ) -> Result<(), Memory>
         ensures { OnOk result (self.new ≡ completed kind self.old name.now helper) }
     {
         if matches!(kind, Kind::Helper) {
@@ -166,5 +176,9 @@ fn any_has(blocks: &[BTreeSet<Text>], name: &Text) -> bool
 pub(crate) fn index_of<'t>(table: &'t Table, name: &Text) -> Option<&'t Index>
     ensures { option_copied result ≡ index_of table.now name.now }
 {
-    table.indexes.as_slice().iter().find(|index| index.name == *name)
+    table
+        .indexes
+        .as_slice()
+        .iter()
+        .find(|index| index.name == *name)
 }

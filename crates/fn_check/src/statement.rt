@@ -16,7 +16,11 @@ use std::alloc::Global;
 pub(crate) fn check_declared(scope: &Scope, name: &Named) -> Result<(), Stop>
     ensures { Tells result (declare_fault scope.now name.now) }
 {
-    refuse_if(scope.is_visible(&name.text), name.at, CheckKind::DuplicateName)
+    refuse_if(
+        scope.is_visible(&name.text),
+        name.at,
+        CheckKind::DuplicateName,
+    )
 }
 
 fn check_let(alloc: Global, scope: &mut Scope, name: &Named, value: &Expr) -> Result<(), Stop>

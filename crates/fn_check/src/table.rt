@@ -14,7 +14,9 @@ use std::alloc::Global;
 use std::collections::BTreeSet;
 
 const TABLES: usize = 64;
+
 const INDEXES: usize = 32;
+
 const FIELDS: usize = 16;
 
 // Empty, or begun by `_` or `$`.
@@ -61,7 +63,12 @@ fn check_listed(
     Ok(())
 }
 
-fn check_field(alloc: Global, seen: &mut BTreeSet<Text>, count: usize, field: &Named) -> Result<(), Stop>
+fn check_field(
+    alloc: Global,
+    seen: &mut BTreeSet<Text>,
+    count: usize,
+    field: &Named,
+) -> Result<(), Stop>
     ensures fault { Tells result (field_fault seen.old.keys count field.now) }
     ensures seen { OnOk result (seen.new.keys ≡ with_name seen.old.keys field.now.text) }
 {
@@ -83,7 +90,12 @@ fn check_fields(alloc: Global, fields: &[Named]) -> Result<(), Stop>
     Ok(())
 }
 
-fn check_index(alloc: Global, seen: &mut BTreeSet<Text>, count: usize, index: &IndexDecl) -> Result<(), Stop>
+fn check_index(
+    alloc: Global,
+    seen: &mut BTreeSet<Text>,
+    count: usize,
+    index: &IndexDecl,
+) -> Result<(), Stop>
     ensures fault { Tells result (index_decl_fault seen.old.keys count (index_view index.now)) }
     ensures seen { OnOk result (seen.new.keys ≡ with_name seen.old.keys index.now.name.text) }
 {
@@ -92,7 +104,14 @@ fn check_index(alloc: Global, seen: &mut BTreeSet<Text>, count: usize, index: &I
         again: CheckKind::DuplicateIndex,
         many: CheckKind::TooManyIndexes,
     };
-    check_listed(alloc, is_bad_index(&index.name.text), seen, count, limit, &index.name)?;
+    check_listed(
+        alloc,
+        is_bad_index(&index.name.text),
+        seen,
+        count,
+        limit,
+        &index.name,
+    )?;
     check_fields(alloc, &index.fields)
 }
 
@@ -106,7 +125,12 @@ fn check_indexes(alloc: Global, indexes: &[IndexDecl]) -> Result<(), Stop>
     Ok(())
 }
 
-fn check_table(alloc: Global, seen: &mut BTreeSet<Text>, count: usize, table: &TableDecl) -> Result<(), Stop>
+fn check_table(
+    alloc: Global,
+    seen: &mut BTreeSet<Text>,
+    count: usize,
+    table: &TableDecl,
+) -> Result<(), Stop>
     ensures fault { Tells result (table_decl_fault seen.old.keys count (table_view table.now)) }
     ensures seen { OnOk result (seen.new.keys ≡ with_name seen.old.keys table.now.name.text) }
 {
@@ -115,7 +139,14 @@ fn check_table(alloc: Global, seen: &mut BTreeSet<Text>, count: usize, table: &T
         again: CheckKind::DuplicateTable,
         many: CheckKind::TooManyTables,
     };
-    check_listed(alloc, is_bad_name(&table.name.text), seen, count, limit, &table.name)?;
+    check_listed(
+        alloc,
+        is_bad_name(&table.name.text),
+        seen,
+        count,
+        limit,
+        &table.name,
+    )?;
     check_indexes(alloc, &table.indexes)
 }
 

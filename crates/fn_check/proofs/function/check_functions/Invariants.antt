@@ -4,4 +4,7 @@ use Rattle.fn_tree.specs.SyntaxViews.{function_view}
 use Rattle.fn_check.proofs.function.check_functions.Given as goal
 
 abbrev pub invariant-loop-count : goal.invariant-loop-count
-invariant-loop-count l = functions_fault l.scope l.names.keys l.count (map function_view (drop l.count l.functions)) ≡ functions_fault l.initial.scope [] 0 (map function_view l.functions)
+invariant-loop-count l = record {
+  fault : functions_fault l.scope l.names.keys l.count (map function_view (drop l.count l.functions)) ≡ functions_fault l.initial.scope [] 0 (map function_view l.functions);
+  schema : l.scope.schema ≡ l.initial.scope.schema;
+}
