@@ -1,0 +1,6 @@
+use Rattle.std.proofs.Common.{◌≡◌, ◌++◌, drop, map}
+use Rattle.fn_check.specs.Schemas.{text_of}
+use Rattle.fn_check.proofs.schema.push_texts.Given as goal
+
+abbrev pub invariant-loop-name : goal.invariant-loop-name
+invariant-loop-name l = l.texts ++ map text_of (drop l.name-index l.names) ≡ l.initial.texts ++ map text_of l.names

@@ -1,0 +1,57 @@
+-- What a place in a module can name.
+use Rattle.std.specs.Prelude.{ℕ, Bool, true, false, ◌||◌, List, [], ◌∷◌, ◌++◌, Option, None, Some, nat_eq}
+use Rattle.std.specs.BTreeMap.{is_at, insert_entry}
+use Rattle.std.specs.BTreeSet.{insert_key}
+use Rattle.std.specs.Cmp.Lexicographic.{pointwise}
+use Rattle.std.specs.List.{find, list_any}
+use Rattle.std.specs.Map.{lookup}
+use Rattle.cv_keys.specs.declared.schema.Index.{Index}
+use Rattle.cv_keys.specs.declared.schema.Schema.{Schema}
+use Rattle.cv_keys.specs.declared.schema.Table.{Table}
+use Rattle.cv_values.specs.Order.{text_cmp}
+use Rattle.fn_check.specs.declared.scope.Helper.{Helper}
+
+-- names in byte order
+abbrev pub Names : Type 0
+Names = List (List ℕ)
+
+abbrev pub has_name : Names → List ℕ → Bool
+has_name names name = list_any (is_at (text_cmp name)) names
+
+abbrev pub with_name : Names → List ℕ → Names
+with_name names name = insert_key text_cmp names name
+
+-- the schema, the helpers that are complete, whether a query is checked, and the visible names: those
+-- of the block, and those of the blocks around it, the nearest last
+pub record Known : Type 0 where
+  pub schema : Schema
+  pub helpers : List (List ℕ × Helper)
+  pub query : Bool
+  pub here : Names
+  pub outer : List Names
+
+abbrev pub any_has : List Names → List ℕ → Bool
+any_has blocks name = list_any (λ names. has_name names name) blocks
+
+abbrev pub is_visible : Known → List ℕ → Bool
+is_visible known name = has_name known.here name || any_has known.outer name
+
+-- with one more name in the block
+abbrev pub with_visible : Known → List ℕ → Known
+with_visible known name = record known { here = with_name known.here name }
+
+-- in a block of this block
+abbrev pub inner : Known → Known
+inner known = record known { here = []; outer = known.outer ++ known.here ∷ [] }
+
+abbrev pub helper_of : Known → List ℕ → Option Helper
+helper_of known name = lookup (is_at (text_cmp name)) known.helpers
+
+abbrev pub same_text : List ℕ → List ℕ → Bool
+same_text a b = pointwise nat_eq a b
+
+abbrev pub table_of : Known → List ℕ → Option Table
+table_of known name = find (λ t. same_text t.name name) known.schema.tables
+
+abbrev pub index_of : Table → List ℕ → Option Index
+index_of table name = find (λ i. same_text i.name name) table.indexes

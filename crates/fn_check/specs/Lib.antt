@@ -1,0 +1,9 @@
+pub mod Bounds
+pub mod Effects
+pub mod Expressions
+pub mod Faults
+pub mod Functions
+pub mod Known
+pub mod Schemas
+pub mod Statements
+pub mod Tables
