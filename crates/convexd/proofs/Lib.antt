@@ -1,5 +1,6 @@
 pub mod Ascii
 pub mod CallLemmas
+pub mod Checking
 pub mod CutLemmas
 pub mod EntryLines
 pub mod EntryTexts

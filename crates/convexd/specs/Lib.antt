@@ -1,3 +1,4 @@
+pub mod Check
 pub mod Contents
 pub mod EntryJson
 pub mod Guess

@@ -8,6 +8,7 @@ use Rattle.convexd.specs.Lines.{lines_of, halves, concat}
 use Rattle.convexd.specs.ModuleText.{IsTextOf}
 use Rattle.convexd.specs.Play.{Played, play, IsOneLog}
 use Rattle.convexd.specs.declared.exit.Exit.{Exit}
+use Rattle.convexd.specs.declared.exit.ModuleFault.TheVariants.{NotYet}
 use Rattle.convexd.specs.declared.exit.Exit.TheVariants.{Done, Usage, Module, Script, Read, Write, Memory, TooLarge}
 
 -- the words of the command
@@ -38,7 +39,7 @@ Replays input old new Done = (played : Played) × IsPlay input played × (played
 Replays input old new (Script line) =
     ((halves (lines_of input) ≡ None) × (line ≡ length (lines_of input) + 1) × Appends old new [] × (length input ≤ INPUT_LIMIT))
     ⊎ ((played : Played) × IsPlay input played × (played.bad ≡ Some line) × Appends old new played.text)
-Replays input old new (Module fault) = HasNoProgram input × Appends old new [] × (length input ≤ INPUT_LIMIT)
+Replays input old new (Module fault) = HasNoProgram input × Appends old new [] × (length input ≤ INPUT_LIMIT) × (fault ≡ NotYet)
 Replays input old new Write = (played : Played) × IsPlay input played × AppendsPart old new played.text
 Replays input old new Memory = Appends old new [] ⊎ ((played : Played) × IsPlay input played × AppendsPart old new played.text)
 Replays input old new TooLarge = (INPUT_LIMIT < length input) × Appends old new []

@@ -1,8 +1,15 @@
+use fn_check::CheckFault;
+use fn_syntax::SyntaxFault;
+
 /// Why a module text is refused.
 #[derive(Clone, Copy, Debug, PartialEq, Eq)]
 pub enum ModuleFault {
-    /// It isn't of the first form.
+    /// It isn't of the first form. `replay` alone answers it.
     NotYet,
+    /// It is no text of a module.
+    Syntax(SyntaxFault),
+    /// It doesn't meet a check.
+    Check(CheckFault),
 }
 
 /// How a command ended. `main` gives each its status, from 0 in this order.

@@ -1,10 +1,11 @@
-//! The program `convexd`: it plays the script that stands behind a module's text.
+//! The program `convexd`: it checks a module's text, or plays the script that stands behind one.
 #![tactic(auto)]
 
 ghost use Rattle.std.specs.Prelude.{◌≡◌};
 ghost use Rattle.std.specs.Process.{exit_status};
 ghost use Rattle.convexd.specs.Replay.{status_of};
 
+mod check;
 mod contents;
 mod entry_json;
 mod exit;
@@ -17,12 +18,14 @@ mod script_line;
 #[cfg(test)]
 mod tests;
 
+pub use check::check_main;
 pub use contents::{Contents, record_call};
 use cv_outside::{StdSink, StdSource};
 pub use exit::{Exit, ModuleFault};
 pub use first_form::{FunctionBody, Module, ModuleFunction, find_function, read_module};
 pub use laws::{
-    answers_exclude_each_other, at_most_one_program, good_inputs_end, scripts_make_one_log,
+    accepted_modules_end, answers_exclude_each_other, at_most_one_program,
+    checks_exclude_each_other, good_inputs_end, scripts_make_one_log,
 };
 pub use lines::{Parts, cut, line_text, split_line};
 pub use play::{PlayFault, play_script};
@@ -36,8 +39,14 @@ fn report(rt: &impl Eprint, exit: Exit) -> ExitCode
 {
     let (status, told) = match exit {
         Exit::Done => (0, Ok(())),
-        Exit::Usage => (1, eprintln!(rt; "usage: convexd replay")),
+        Exit::Usage => (1, eprintln!(rt; "usage: convexd replay | check")),
         Exit::Module(ModuleFault::NotYet) => (2, eprintln!(rt; "module 0 NotYet")),
+        Exit::Module(ModuleFault::Syntax(fault)) => {
+            (2, eprintln!(rt; "module {} {:?}", fault.at, fault.why))
+        }
+        Exit::Module(ModuleFault::Check(fault)) => {
+            (2, eprintln!(rt; "module {} {:?}", fault.at, fault.kind))
+        }
         Exit::Script { line } => (3, eprintln!(rt; "script {line}")),
         Exit::Read => (4, eprintln!(rt; "read")),
         Exit::Write => (5, eprintln!(rt; "write")),
@@ -66,6 +75,11 @@ fn main(rt: HostRuntime) -> ExitCode {
     }
     let mut input = StdSource::new(rt.reader());
     let mut out = StdSink::new(io::writer(&rt));
-    let exit = replay_main(alloc, &words, &mut input, &mut out);
+    let exit = match words.first() {
+        Some(word) if word.as_str() == "check" => {
+            check_main(alloc, &words, &mut input, &mut out)
+        }
+        _ => replay_main(alloc, &words, &mut input, &mut out),
+    };
     report(&rt, exit)
 }

@@ -7,7 +7,6 @@ use Rattle.convexd.specs.Replay.{IsPlay, HasNoProgram, Replays, TellsOfInput}
 use Rattle.convexd.specs.declared.exit.Exit.{Exit}
 use Rattle.convexd.specs.declared.exit.Exit.TheVariants.{Done, Usage, Module, Script, Read, Write, Memory, TooLarge}
 use Rattle.convexd.specs.declared.exit.ModuleFault.{ModuleFault}
-use Rattle.convexd.specs.declared.exit.ModuleFault.TheVariants.{NotYet}
 use Rattle.convexd.proofs.OneProgram.{same_program}
 use Rattle.convexd.proofs.laws.answers_exclude_each_other.Goals as goal
 
@@ -53,9 +52,6 @@ same_line input old new old' new' m n (inl v) (inr w) = let e = sym v.0 ∙ w.1.
 same_line input old new old' new' m n (inr v) (inl w) = let e = sym w.0 ∙ v.1.parts in cc
 same_line input old new old' new' m n (inr v) (inr w) = let e = sym v.2 ∙ same_bad input v.0 w.0 v.1 w.1 ∙ w.2 in cc
 
-same_fault : (f g : ModuleFault) → f ≡ g
-same_fault NotYet NotYet = refl
-
 one : (input : List ℕ) (old new old' new' : Option (List ℕ)) (a b : Exit) → TellsOfInput a → TellsOfInput b → Replays input old new a → Replays input old' new' b → a ≡ b
 one input old new old' new' Done Done s t v w = refl
 one input old new old' new' Done (Script line) s t v w = absurd (done_script input old new old' new' line v w)
@@ -67,7 +63,7 @@ one input old new old' new' (Script line) (Module fault) s t v w = absurd (scrip
 one input old new old' new' (Script line) TooLarge s t v w = absurd (script_large input old new old' new' line v w)
 one input old new old' new' (Module fault) Done s t v w = absurd (no_play input w.0 v.0 w.1)
 one input old new old' new' (Module fault) (Script line) s t v w = absurd (script_module input old' new' old new line fault w v)
-one input old new old' new' (Module f) (Module g) s t v w = ap Module (same_fault f g)
+one input old new old' new' (Module f) (Module g) s t v w = ap Module (v.3 ∙ sym w.3)
 one input old new old' new' (Module fault) TooLarge s t v w = absurd (omega (arith, w.0, v.2))
 one input old new old' new' TooLarge Done s t v w = absurd (omega (arith, v.0, w.1.limit))
 one input old new old' new' TooLarge (Script line) s t v w = absurd (script_large input old' new' old new line w v)
