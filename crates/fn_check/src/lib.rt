@@ -8,6 +8,7 @@
 mod bounds;
 mod checked;
 mod checks;
+mod copy;
 mod effects;
 mod expression;
 mod fault;
