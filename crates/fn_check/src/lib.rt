@@ -17,6 +17,8 @@ mod schema;
 mod scope;
 mod statement;
 mod table;
+#[cfg(test)]
+mod tests;
 
 pub use checked::Checked;
 pub use checks::check;

@@ -1,4 +1,4 @@
-use Rattle.std.proofs.Common.{◌≡◌, ◌∙◌, ap, sym, List}
+use Rattle.std.proofs.Common.{◌∙◌, ap, sym, List}
 use Rattle.fn_check.specs.Copies.{entry_views}
 use Rattle.fn_tree.proofs.FormViews.{form-Object}
 use Rattle.fn_tree.specs.SyntaxTree as plain
