@@ -1,5 +1,5 @@
 -- What an expression does that a query may not do.
-use Rattle.std.specs.Prelude.{ℕ, Bool, true, false, ◌||◌, List, Option, None, Some}
+use Rattle.std.specs.Prelude.{Bool, true, false, ◌||◌, Option, None, Some}
 use Rattle.fn_check.specs.Known.{Known, helper_of}
 use Rattle.fn_check.specs.declared.effects.Effect.{Effect}
 use Rattle.fn_check.specs.declared.effects.Effect.TheVariants.{Write, Now}

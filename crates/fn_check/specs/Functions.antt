@@ -1,5 +1,5 @@
 -- The first fault of a module: its tables, and then its functions.
-use Rattle.std.specs.Prelude.{ℕ, ◌+◌, Bool, true, false, nat_le, List, [], ◌∷◌, Option, None, length}
+use Rattle.std.specs.Prelude.{ℕ, ◌+◌, Bool, true, false, nat_le, List, [], ◌∷◌, None, length}
 use Rattle.std.specs.Option.{is_some}
 use Rattle.std.specs.BTreeMap.{insert_entry}
 use Rattle.cv_keys.specs.declared.schema.Schema.{Schema}

@@ -1,4 +1,5 @@
 pub mod Bounds
+pub mod Copies
 pub mod Effects
 pub mod Expressions
 pub mod Faults

@@ -1,5 +1,5 @@
 -- The first fault of statements.
-use Rattle.std.specs.Prelude.{Option, None}
+use Rattle.std.specs.Prelude.{None}
 use Rattle.fn_check.specs.Expressions.{First, expr_fault, variable_fault}
 use Rattle.fn_check.specs.Faults.{◌before◌, fault_if}
 use Rattle.fn_check.specs.Known.{Known, Names, with_name, with_visible, is_visible, inner}

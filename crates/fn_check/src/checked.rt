@@ -1,10 +1,13 @@
-ghost use Rattle.std.specs.Prelude.{◌≡◌, None};
+ghost use Rattle.std.specs.Prelude.{◌≡◌, None, IfOk};
 ghost use Rattle.fn_check.specs.Functions.{first_fault};
 ghost use Rattle.fn_check.specs.Schemas.{schema_of};
 ghost use Rattle.fn_tree.specs.SyntaxViews.{module_view};
 
+use crate::copy::copy_module;
 use cv_keys::Schema;
+use cv_values::Memory;
 use fn_tree::Module;
+use std::alloc::Global;
 
 /// A module that meets every check, with its schema.
 #[derive(Drop)]
@@ -40,5 +43,14 @@ impl Checked {
         ensures meets { first_fault (module_view result.now) ≡ None }
     {
         &self.tree
+    }
+
+    /// An equal module with its schema, in memory of its own.
+    pub fn copy(&self, alloc: Global) -> Result<Checked, Memory>
+        ensures { IfOk result (λ c. module_view c.tree ≡ module_view self.now.tree) }
+    {
+        let tree = copy_module(alloc, &self.tree)?;
+        let schema = self.schema.copy(alloc)?;
+        Ok(Checked { tree, schema })
     }
 }

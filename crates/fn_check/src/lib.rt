@@ -8,6 +8,7 @@
 mod bounds;
 mod checked;
 mod checks;
+mod copy;
 mod effects;
 mod expression;
 mod fault;
@@ -16,6 +17,8 @@ mod schema;
 mod scope;
 mod statement;
 mod table;
+#[cfg(test)]
+mod tests;
 
 pub use checked::Checked;
 pub use checks::check;

@@ -1,6 +1,4 @@
-use Rattle.std.proofs.Common.{rules, ◌≡◌, map, ap, sym, ◌∙◌}
-use Rattle.fn_check.specs.Effects.{expr_does, entries_do}
-use Rattle.fn_tree.specs.SyntaxViews.{expr_view, entries_of}
+use Rattle.std.proofs.Common.{rules}
 use Rattle.fn_tree.specs.declared.syntax.ExprForm.TheVariants as form
 use Rattle.fn_tree.proofs.FormViews.{form-Object}
 use Rattle.fn_check.proofs.Views.{viewed}

@@ -1,4 +1,4 @@
-use Rattle.std.proofs.Common.{rules, ◌≡◌, ◌∙◌, ap, map, [], List}
+use Rattle.std.proofs.Common.{◌≡◌, ◌∙◌, ap, map, []}
 use Rattle.fn_check.specs.Known.{Known, inner, with_visible, with_name}
 use Rattle.fn_check.specs.Statements.{after_stmts, names_after_all}
 use Rattle.fn_tree.specs.SyntaxViews.{stmt_view, stmts_of}
