@@ -1,5 +1,3 @@
-pub mod Again
-pub mod Alike
 pub mod AsciiEnds
 pub mod Begins
 pub mod Characters
@@ -13,8 +11,6 @@ pub mod Legal
 pub mod ModuleTexts
 pub mod OriginOfIds
 pub mod Places
-pub mod Relexed
-pub mod StringsAgain
 pub mod StringsSay
 pub mod Tables
 pub mod TokenTexts

@@ -1,4 +1,4 @@
-use Rattle.std.proofs.Common.{◌++◌, append_assoc, ◌≡◌, sym, ap, ◌∙◌}
+use Rattle.std.proofs.Common.{append_assoc}
 use Rattle.fn_tree.proofs.FormViews.{form-Object, form-Group, form-Scan, form-Count, form-Get, form-Now, form-Insert, form-Delete, form-Patch, form-Replace, form-Field, form-Item, form-Unary, form-Binary}
 use Rattle.fn_tree.proofs.printer.expressions.+print.Goals as goal
 
