@@ -96,7 +96,7 @@ fn inserting(alloc: Global, kind: Kind, at: u64) -> Result<Module, Memory> {
 }
 
 #[test]
-fn row_16_refused_modules(rt: HostRuntime) -> Result<(), Fail> {
+fn refused_modules(rt: HostRuntime) -> Result<(), Fail> {
     let alloc = rt.alloc();
     let unknown = calling(alloc, Kind::Query, 6, "q:a", "f", 21)?;
     assert!(rt; has_fault(alloc, unknown, 21, CheckKind::UnknownHelper)?);
@@ -108,7 +108,7 @@ fn row_16_refused_modules(rt: HostRuntime) -> Result<(), Fail> {
 }
 
 #[test]
-fn row_16_too_many_fields(rt: HostRuntime) -> Result<(), Fail> {
+fn a_seventeenth_field_is_refused(rt: HostRuntime) -> Result<(), Fail> {
     let alloc = rt.alloc();
     let mut fields = Vec::new(alloc);
     let mut at = 18u64;
