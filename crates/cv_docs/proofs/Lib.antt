@@ -1,0 +1,5 @@
+pub mod Orders
+pub mod Newest
+pub mod Later
+pub mod Behind
+pub mod Taking

@@ -1,0 +1,59 @@
+-- What a list of inserts does to the rows at a timestamp.
+use Rattle.std.specs.Prelude.{◌≡◌, ℕ, ◌<◌, ◌≤◌, Bool, nat_le, Option, List, [], ◌∷◌, ◌++◌, map, filter, length}
+use Rattle.std.specs.BTreeMap.{insert_entry}
+use Rattle.cv_values.specs.Order.{text_cmp}
+use Rattle.cv_values.specs.declared.doc.Doc.{Doc}
+use Rattle.cv_keys.specs.declared.interval.Interval.{Interval}
+use Rattle.cv_docs.specs.Entries.{IsInOrder, AllEarlier, AreKnown, inserted}
+use Rattle.cv_docs.specs.Rows.{newest}
+use Rattle.cv_docs.specs.Cut.{scanned}
+use Rattle.cv_docs.specs.declared.entry.IndexEntry.{IndexEntry}
+
+-- the entries after a list of inserts, one after the other
+abbrev pub with_all : List IndexEntry → List IndexEntry → List IndexEntry
+with_all [] es = es
+with_all (x ∷ xs) es = with_all xs (inserted x es)
+
+-- each insert of the list is allowed at its turn
+abbrev pub AreAllowed : List IndexEntry → List IndexEntry → Type 0
+AreAllowed [] es = Unit {0}
+AreAllowed (x ∷ xs) es = AllEarlier x.key x.ts es × AreAllowed xs (inserted x es)
+
+-- each is later than ts
+abbrev pub AllLater : ℕ → List IndexEntry → Type 0
+AllLater ts [] = Unit {0}
+AllLater ts (x ∷ xs) = (ts < x.ts) × AllLater ts xs
+
+-- keys in order, each with its version number or gone
+abbrev pub Current : Type 0
+Current = List (List ℕ × Option ℕ)
+
+-- each insert of the list sets its key
+abbrev pub set_all : List IndexEntry → Current → Current
+set_all [] m = m
+set_all (x ∷ xs) m = set_all xs (insert_entry text_cmp m x.key x.version)
+
+-- the newest versions up to ts
+abbrev pub current : ℕ → List IndexEntry → Current
+current ts es = map (λ e. (e.key, e.version)) (newest ts es)
+
+-- inserts later than ts, and documents with later numbers, change no scan at ts
+abbrev pub LaterInsertsChangeNothing : Type 0
+LaterInsertsChangeNothing = (es later : List IndexEntry) (docs more : List Doc) (ts : ℕ) (i : Interval) (desc : Bool) (rows size : ℕ)
+    → AreKnown (length docs) es → AllLater ts later
+    → scanned (docs ++ more) ts i desc rows size (with_all later es) ≡ scanned docs ts i desc rows size es
+
+-- an insert up to ts sets its key among the newest versions
+abbrev pub InsertsSetTheirKey : Type 0
+InsertsSetTheirKey = (e : IndexEntry) (es : List IndexEntry) (ts : ℕ)
+    → IsInOrder es → AllEarlier e.key e.ts es → e.ts ≤ ts
+    → current ts (inserted e es) ≡ insert_entry text_cmp (current ts es) e.key e.version
+
+-- the newest versions up to ts are those that the inserts up to ts set, one after the other
+abbrev pub NewestGoByInserts : Type 0
+NewestGoByInserts = (xs : List IndexEntry) (ts : ℕ) → AreAllowed xs []
+    → current ts (with_all xs []) ≡ set_all (filter (λ e. nat_le e.ts ts) xs) []
+
+-- the list stays in order
+abbrev pub InsertsKeepOrder : Type 0
+InsertsKeepOrder = (e : IndexEntry) (es : List IndexEntry) → IsInOrder es → AllEarlier e.key e.ts es → IsInOrder (inserted e es)

@@ -1,0 +1,16 @@
+//! What holds of the rows at old timestamps.
+ghost use Rattle.cv_docs.specs.History.{LaterInsertsChangeNothing, InsertsSetTheirKey, NewestGoByInserts, InsertsKeepOrder};
+
+/// Old rows stay as they were, and a scan reads what the inserts up to its timestamp have set.
+///
+/// - Inserts at later timestamps, and documents with later numbers, change no scan.
+/// - After a list of inserts from nothing, the newest version up to a timestamp of each key is the one
+///   that the inserts up to it have set, one after the other.
+/// - An insert up to a timestamp sets its key among the newest versions up to it, and no other key.
+/// - An insert keeps the entries in order.
+pub fn old_rows_stay()
+    ensures later { LaterInsertsChangeNothing }
+    ensures newest { NewestGoByInserts }
+    ensures sets { InsertsSetTheirKey }
+    ensures order { InsertsKeepOrder }
+{}
