@@ -24,6 +24,11 @@ abbrev pub AllEarlier : List ℕ → ℕ → List IndexEntry → Type 0
 AllEarlier k ts [] = Unit {0}
 AllEarlier k ts (x ∷ xs) = (x.key ≡ k → x.ts < ts) × AllEarlier k ts xs
 
+-- each entry has an earlier timestamp
+abbrev pub AllBefore : ℕ → List IndexEntry → Type 0
+AllBefore ts [] = Unit {0}
+AllBefore ts (x ∷ xs) = (x.ts < ts) × AllBefore ts xs
+
 -- the list with e before the first entry whose key is above its own
 abbrev pub inserted : IndexEntry → List IndexEntry → List IndexEntry
 inserted e [] = e ∷ []

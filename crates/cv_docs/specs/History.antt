@@ -1,10 +1,10 @@
 -- What a list of inserts does to the rows at a timestamp.
-use Rattle.std.specs.Prelude.{◌≡◌, ℕ, ◌<◌, ◌≤◌, Bool, nat_le, Option, List, [], ◌∷◌, ◌++◌, map, filter, length}
+use Rattle.std.specs.Prelude.{◌≡◌, ◌≢◌, ℕ, ◌+◌, ◌<◌, ◌≤◌, Bool, nat_le, Option, List, [], ◌∷◌, ◌++◌, map, filter, length}
 use Rattle.std.specs.BTreeMap.{insert_entry}
 use Rattle.cv_values.specs.Order.{text_cmp}
 use Rattle.cv_values.specs.declared.doc.Doc.{Doc}
 use Rattle.cv_keys.specs.declared.interval.Interval.{Interval}
-use Rattle.cv_docs.specs.Entries.{IsInOrder, AllEarlier, AreKnown, inserted}
+use Rattle.cv_docs.specs.Entries.{IsInOrder, AllEarlier, AllBefore, AreKnown, inserted}
 use Rattle.cv_docs.specs.Rows.{newest}
 use Rattle.cv_docs.specs.Cut.{scanned}
 use Rattle.cv_docs.specs.declared.entry.IndexEntry.{IndexEntry}
@@ -57,3 +57,12 @@ NewestGoByInserts = (xs : List IndexEntry) (ts : ℕ) → AreAllowed xs []
 -- the list stays in order
 abbrev pub InsertsKeepOrder : Type 0
 InsertsKeepOrder = (e : IndexEntry) (es : List IndexEntry) → IsInOrder es → AllEarlier e.key e.ts es → IsInOrder (inserted e es)
+
+-- any key may be set at a timestamp that is later than all entries, and then any other key
+abbrev pub LaterInsertsAreAllowed : Type 0
+LaterInsertsAreAllowed = (e : IndexEntry) (es : List IndexEntry) (k : List ℕ) → AllBefore e.ts es
+    → AllEarlier e.key e.ts es × (k ≢ e.key → AllEarlier k e.ts (inserted e es)) × AllBefore (e.ts + 1) (inserted e es)
+
+-- after an insert of a known version, or none, each version is known, and stays so while documents are added
+abbrev pub VersionsStayKnown : Type 0
+VersionsStayKnown = (e : IndexEntry) (es : List IndexEntry) (n m : ℕ) → n ≤ m → AreKnown n es → AreKnown m (e ∷ []) → AreKnown m (inserted e es)

@@ -1,5 +1,5 @@
 //! What holds of the rows at old timestamps.
-ghost use Rattle.cv_docs.specs.History.{LaterInsertsChangeNothing, InsertsSetTheirKey, NewestGoByInserts, InsertsKeepOrder};
+ghost use Rattle.cv_docs.specs.History.{LaterInsertsChangeNothing, InsertsSetTheirKey, NewestGoByInserts, InsertsKeepOrder, VersionsStayKnown, LaterInsertsAreAllowed};
 
 /// Old rows stay as they were, and a scan reads what the inserts up to its timestamp have set.
 ///
@@ -7,10 +7,13 @@ ghost use Rattle.cv_docs.specs.History.{LaterInsertsChangeNothing, InsertsSetThe
 /// - After a list of inserts from nothing, the newest version up to a timestamp of each key is the one
 ///   that the inserts up to it have set, one after the other.
 /// - An insert up to a timestamp sets its key among the newest versions up to it, and no other key.
-/// - An insert keeps the entries in order.
+/// - An insert keeps the entries in order, and their versions known.
+/// - At a timestamp that is later than all entries any key may be set, and then any other key.
 pub fn old_rows_stay()
     ensures later { LaterInsertsChangeNothing }
     ensures newest { NewestGoByInserts }
     ensures sets { InsertsSetTheirKey }
     ensures order { InsertsKeepOrder }
+    ensures known { VersionsStayKnown }
+    ensures allowed { LaterInsertsAreAllowed }
 {}

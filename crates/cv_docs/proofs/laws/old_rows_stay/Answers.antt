@@ -1,4 +1,5 @@
 use Rattle.cv_docs.proofs.Later.{later_inserts, newest_by_inserts, inserts_set, inserts_keep_order}
+use Rattle.cv_docs.proofs.Allowed.{later_allowed, stay_known}
 use Rattle.cv_docs.proofs.laws.old_rows_stay.Goals as goal
 
 pub returns-clause-later : goal.returns-clause-later
@@ -12,3 +13,9 @@ returns-clause-sets c = inserts_set
 
 pub returns-clause-order : goal.returns-clause-order
 returns-clause-order c = inserts_keep_order
+
+pub returns-clause-known : goal.returns-clause-known
+returns-clause-known c = stay_known
+
+pub returns-clause-allowed : goal.returns-clause-allowed
+returns-clause-allowed c = later_allowed
