@@ -1,5 +1,5 @@
 -- Which inserts are allowed, and that versions stay known.
-use Rattle.std.proofs.Common.{◌≡◌, ◌≢◌, ℕ, ◌+◌, ◌<◌, ◌≤◌, Bool, true, false, cond, List, [], ◌∷◌, Option, Some, None, MatchOption, sym, arith}
+use Rattle.std.proofs.Common.{◌≡◌, ℕ, ◌+◌, ◌<◌, ◌≤◌, Bool, true, false, cond, List, [], ◌∷◌, Option, Some, None, MatchOption, sym, arith}
 use Rattle.std.specs.Ordering.{is_lt}
 use Rattle.cv_values.specs.Order.{text_cmp}
 use Rattle.cv_docs.specs.Entries.{AllEarlier, AllBefore, AreKnown, inserted}
@@ -32,10 +32,11 @@ before_inserted ts e [] n h = (n, tt)
 before_inserted ts e (x ∷ xs) n h = before_at (is_lt (text_cmp e.key x.key)) ts e x xs n h (before_inserted ts e xs n h.1)
 
 pub later_allowed : LaterInsertsAreAllowed
-later_allowed e es k h =
-    (earlier_from_before e.key e.ts es h,
-     (λ n. earlier_inserted k e.ts e es (λ s. absurd (n (sym s))) (earlier_from_before k e.ts es h)),
-     before_inserted (e.ts + 1) e es (omega arith) (before_next e.ts es h))
+later_allowed e es k h = (
+  earlier_from_before e.key e.ts es h,
+  (λ n. earlier_inserted k e.ts e es (λ s. absurd (n (sym s))) (earlier_from_before k e.ts es h)),
+  before_inserted (e.ts + 1) e es (omega arith) (before_next e.ts es h),
+)
 
 known_more : (n m : ℕ) (v : Option ℕ) → n ≤ m → MatchOption v (Unit {0}) (λ k. k < n) → MatchOption v (Unit {0}) (λ k. k < m)
 known_more n m None l h = tt

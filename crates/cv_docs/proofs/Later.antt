@@ -1,14 +1,14 @@
 -- Scans after later inserts.
 use Rattle.std.proofs.Common.{◌≡◌, ℕ, zero, suc, ◌<◌, Bool, true, false, nat_le, cond, List, [], ◌∷◌, ◌++◌, length, map, filter, reverse, Option, Some, None, MatchOption, option_and_then, slice_get, refl, ap, ◌∙◌, arith, le-leb}
 use Rattle.std.proofs.lemmas.Bool.{lt-leb}
-use Rattle.std.specs.List.{cons_option}
+use Rattle.std.specs.List.{cons_option, filter_map}
 use Rattle.cv_values.specs.declared.doc.Doc.{Doc}
 use Rattle.cv_keys.specs.KeyBytes.{is_between}
 use Rattle.cv_keys.specs.declared.interval.Interval.{Interval}
 use Rattle.cv_docs.specs.Entries.{IsInOrder, AreKnown, inserted}
 use Rattle.cv_docs.specs.Rows.{newest, doc_of, docs_of, rows_at}
 use Rattle.cv_docs.specs.Cut.{cut}
-use Rattle.cv_docs.specs.History.{with_all, AreAllowed, AllLater, current, set_all, LaterInsertsChangeNothing, InsertsSetTheirKey, NewestGoByInserts, InsertsKeepOrder}
+use Rattle.cv_docs.specs.History.{with_all, AreAllowed, AllLater, Current, current, set_all, rows_in, RowsGoByNewest, LaterInsertsChangeNothing, InsertsSetTheirKey, NewestGoByInserts, InsertsKeepOrder}
 use Rattle.cv_docs.specs.declared.entry.IndexEntry.{IndexEntry}
 use Rattle.cv_docs.proofs.Newest.{newest-later, sets_key, stays_in_order}
 
@@ -67,3 +67,21 @@ newest_by_inserts xs ts a = by_inserts ts xs [] tt a
 
 pub inserts_keep_order : InsertsKeepOrder
 inserts_keep_order e es h t = stays_in_order e es h t
+
+module _ (docs : List Doc) (i : Interval) where
+  abbrev pair : IndexEntry → List ℕ × Option ℕ
+  pair e = (e.key, e.version)
+
+  abbrev shown : List ℕ × Option ℕ → Option Doc
+  shown p = option_and_then (λ n. slice_get docs n) p.1
+
+  rows_at_pair : (b : Bool) (x : IndexEntry) (xs : List IndexEntry) (ps : Current) → docs_of docs xs ≡ filter_map shown ps → docs_of docs (cond b (x ∷ xs) xs) ≡ filter_map shown (cond b (pair x ∷ ps) ps)
+  rows_at_pair true x xs ps h = ap (cons_option (doc_of docs x)) h
+  rows_at_pair false x xs ps h = h
+
+  rows_pairs : (xs : List IndexEntry) → docs_of docs (filter (λ e. is_between e.key i.lo i.hi) xs) ≡ rows_in docs i (map pair xs)
+  rows_pairs [] = refl
+  rows_pairs (x ∷ xs) = rows_at_pair (is_between x.key i.lo i.hi) x (filter (λ e. is_between e.key i.lo i.hi) xs) (filter (λ p. is_between p.0 i.lo i.hi) (map pair xs)) (rows_pairs xs)
+
+pub rows_by_newest : RowsGoByNewest
+rows_by_newest docs ts i es = rows_pairs docs i (newest ts es)

@@ -1,11 +1,13 @@
 -- What a list of inserts does to the rows at a timestamp.
-use Rattle.std.specs.Prelude.{◌≡◌, ◌≢◌, ℕ, ◌+◌, ◌<◌, ◌≤◌, Bool, nat_le, Option, List, [], ◌∷◌, ◌++◌, map, filter, length}
+use Rattle.std.specs.Prelude.{◌≡◌, ◌≢◌, ℕ, ◌+◌, ◌<◌, ◌≤◌, Bool, nat_le, Option, option_and_then, slice_get, List, [], ◌∷◌, ◌++◌, map, filter, length}
 use Rattle.std.specs.BTreeMap.{insert_entry}
+use Rattle.std.specs.List.{filter_map}
 use Rattle.cv_values.specs.Order.{text_cmp}
 use Rattle.cv_values.specs.declared.doc.Doc.{Doc}
+use Rattle.cv_keys.specs.KeyBytes.{is_between}
 use Rattle.cv_keys.specs.declared.interval.Interval.{Interval}
 use Rattle.cv_docs.specs.Entries.{IsInOrder, AllEarlier, AllBefore, AreKnown, inserted}
-use Rattle.cv_docs.specs.Rows.{newest}
+use Rattle.cv_docs.specs.Rows.{newest, rows_at}
 use Rattle.cv_docs.specs.Cut.{scanned}
 use Rattle.cv_docs.specs.declared.entry.IndexEntry.{IndexEntry}
 
@@ -36,6 +38,14 @@ set_all (x ∷ xs) m = set_all xs (insert_entry text_cmp m x.key x.version)
 -- the newest versions up to ts
 abbrev pub current : ℕ → List IndexEntry → Current
 current ts es = map (λ e. (e.key, e.version)) (newest ts es)
+
+-- the documents of a map of keys that lie in the interval, in key order
+abbrev pub rows_in : List Doc → Interval → Current → List Doc
+rows_in docs i m = filter_map (λ p. option_and_then (λ n. slice_get docs n) p.1) (filter (λ p. is_between p.0 i.lo i.hi) m)
+
+-- the rows at ts are the documents of the newest versions up to it
+abbrev pub RowsGoByNewest : Type 0
+RowsGoByNewest = (docs : List Doc) (ts : ℕ) (i : Interval) (es : List IndexEntry) → rows_at docs ts i es ≡ rows_in docs i (current ts es)
 
 -- inserts later than ts, and documents with later numbers, change no scan at ts
 abbrev pub LaterInsertsChangeNothing : Type 0

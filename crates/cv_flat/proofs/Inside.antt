@@ -1,8 +1,7 @@
 -- The entries between two places, and those in an interval.
-use Rattle.std.proofs.Common.{◌≡◌, ℕ, zero, suc, ◌+◌, ◌-◌, ◌<◌, ◌≤◌, Bool, true, false, not, ◌&&◌, ◌||◌, nat_le, max, cond, List, [], ◌∷◌, ◌++◌, length, take, drop, filter, refl, sym, ap, ◌∙◌, arith}
-use Rattle.std.specs.Cmp.Lexicographic.{nat_list_cmp_total}
+use Rattle.std.proofs.Common.{◌≡◌, ℕ, suc, ◌-◌, Bool, true, false, not, ◌&&◌, ◌||◌, nat_le, max, cond, List, [], ◌∷◌, take, drop, refl, sym, ap, ◌∙◌, arith}
 use Rattle.std.specs.List.{slice_range}
-use Rattle.std.specs.Ordering.{is_lt, is_le, is_ge, is_eq}
+use Rattle.std.specs.Ordering.{is_lt, is_ge}
 use Rattle.std.specs.declared.cmp.Ordering.{Ordering}
 use Rattle.std.specs.declared.cmp.Ordering.TheVariants.{Less, Equal, Greater}
 use Rattle.std.proofs.lemmas.Map.Lookups.{exact_bytes}
@@ -12,7 +11,6 @@ use Rattle.cv_keys.specs.declared.interval.Interval.{Interval}
 use Rattle.cv_docs.specs.Entries.{IsInOrder, AllAfter, entry_cmp}
 use Rattle.cv_docs.specs.Rows.{counts, has_entry, newest}
 use Rattle.cv_docs.specs.declared.entry.IndexEntry.{IndexEntry}
-use Rattle.cv_docs.proofs.Orders.{turned, is_less, AllFrom, from_after}
 use Rattle.cv_flat.specs.Parts.{passing, entries_in}
 use Rattle.cv_flat.proofs.Front.{Leads, Falls, NonePass, none_behind, lower_falls}
 use Rattle.std.proofs.lemmas.Bool.{and_right}

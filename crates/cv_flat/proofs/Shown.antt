@@ -1,12 +1,12 @@
 -- The rows of entries, one after the other.
-use Rattle.std.proofs.Common.{◌≡◌, ℕ, zero, suc, ◌+◌, ◌<◌, ◌≤◌, Bool, true, false, not, ◌&&◌, nat_le, cond, List, [], ◌∷◌, ◌++◌, length, drop, reverse, Option, Some, None, slice_get, refl, sym, ap, ◌∙◌, append-nil, append_assoc, add-one, get_or}
+use Rattle.std.proofs.Common.{◌≡◌, ℕ, zero, suc, ◌+◌, ◌<◌, Bool, true, false, not, ◌&&◌, nat_le, cond, List, [], ◌∷◌, ◌++◌, length, drop, reverse, Option, Some, None, slice_get, refl, sym, ap, ◌∙◌, append-nil, append_assoc, add-one, get_or}
 use Rattle.std.proofs.Math.Seq.{drop-cons}
 use Rattle.std.specs.List.{cons_option}
 use Rattle.std.proofs.lemmas.List.{reverse-append}
 use Rattle.cv_values.specs.declared.doc.Doc.{Doc}
 use Rattle.cv_docs.specs.Cut.{cut, Taken, ending}
 use Rattle.cv_docs.specs.Entries.{IsInOrder}
-use Rattle.cv_docs.specs.Rows.{has_entry, newest, doc_of, docs_of, is_newest}
+use Rattle.cv_docs.specs.Rows.{has_entry, newest, doc_of, docs_of}
 use Rattle.cv_docs.specs.declared.entry.IndexEntry.{IndexEntry}
 use Rattle.cv_docs.proofs.Behind.{next_tells}
 use Rattle.cv_flat.specs.Parts.{row_of, rows_of}

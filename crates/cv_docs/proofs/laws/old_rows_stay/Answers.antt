@@ -1,4 +1,4 @@
-use Rattle.cv_docs.proofs.Later.{later_inserts, newest_by_inserts, inserts_set, inserts_keep_order}
+use Rattle.cv_docs.proofs.Later.{later_inserts, rows_by_newest, newest_by_inserts, inserts_set, inserts_keep_order}
 use Rattle.cv_docs.proofs.Allowed.{later_allowed, stay_known}
 use Rattle.cv_docs.proofs.laws.old_rows_stay.Goals as goal
 
@@ -19,3 +19,6 @@ returns-clause-known c = stay_known
 
 pub returns-clause-allowed : goal.returns-clause-allowed
 returns-clause-allowed c = later_allowed
+
+pub returns-clause-rows : goal.returns-clause-rows
+returns-clause-rows c = rows_by_newest

@@ -1,4 +1,3 @@
-use Rattle.std.proofs.Common.{◌≡◌}
 use Rattle.cv_flat.proofs.Inside.{slice_in}
 use Rattle.cv_flat.proofs.places.entries_in.Goals as goal
 
