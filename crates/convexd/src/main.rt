@@ -6,6 +6,8 @@ ghost use Rattle.std.specs.Process.{exit_status};
 ghost use Rattle.convexd.specs.Replay.{status_of};
 
 mod check;
+#[cfg(test)]
+mod check_tests;
 mod contents;
 mod entry_json;
 mod exit;

@@ -166,7 +166,7 @@ fn errors_are_replies(rt: HostRuntime) -> Result<(), Fail> {
 }
 
 #[test]
-fn row_3_repeated_request_and_log(rt: HostRuntime) -> Result<(), Fail> {
+fn a_repeated_request_and_the_log(rt: HostRuntime) -> Result<(), Fail> {
     script_writes(
         &rt,
         rt.alloc(),
