@@ -59,7 +59,7 @@ fn values_are_written_and_read(rt: HostRuntime) -> Result<(), Fail> {
 }
 
 #[test]
-fn row_4_integers_in_json(rt: HostRuntime) -> Result<(), Fail> {
+fn integers_in_json(rt: HostRuntime) -> Result<(), Fail> {
     let alloc = rt.alloc();
     let rows = [
         (1, "{\"$integer\":\"AQAAAAAAAAA=\"}"),

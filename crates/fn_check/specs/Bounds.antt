@@ -27,6 +27,7 @@ fits so_far GreaterEqual = not so_far.lower
 abbrev pub allows : List (List ℕ) → Bounded → List ℕ → CompareOp → Bool
 allows fields so_far name op = fits so_far op && is_next fields so_far.equal name
 
+-- what bounds the fields with one more bound
 abbrev pub bounded_by : Bounded → CompareOp → Bounded
 bounded_by so_far Equal = record so_far { equal = so_far.equal + 1 }
 bounded_by so_far NotEqual = so_far

@@ -14,6 +14,7 @@ use Rattle.fn_tree.specs.declared.syntax.Builtin.{Builtin}
 use Rattle.fn_tree.specs.declared.syntax.Builtin.TheVariants.{Len, Has, Push, Set, Without, Slice, Range, Show, Keys}
 use Rattle.fn_tree.specs.declared.syntax.Named.{Named}
 
+-- the first fault of a part, or none
 abbrev pub First : Type 0
 First = Option CheckFault
 
@@ -29,13 +30,16 @@ arity_of Range = 2
 arity_of Show = 1
 arity_of Keys = 1
 
+-- how many expressions stand in a list
 abbrev pub count_of : Exprs → ℕ
 count_of no_exprs = 0
 count_of (then_expr e es) = suc (count_of es)
 
+-- a call wants so many arguments and is given so many
 abbrev pub arity_fault : ℕ → ℕ → ℕ → First
 arity_fault wanted given at = fault_if (not (nat_eq given wanted)) at WrongArity
 
+-- a variable has to be visible
 abbrev pub variable_fault : Known → List ℕ → ℕ → First
 variable_fault known x at = fault_if (not (is_visible known x)) at UnknownName
 
@@ -52,19 +56,24 @@ abbrev pub call_fault : Known → Option Helper → ℕ → ℕ → First
 call_fault known None given at = Some (record { at = at; kind = UnknownHelper })
 call_fault known (Some h) given at = arity_fault h.params given at before write_fault known h.writes at before now_fault known h.uses_now at
 
+-- a table has to be declared
 abbrev pub table_fault : Known → Named → First
 table_fault known t = elim (table_of known t.text) [ None ↦ Some (record { at = t.at; kind = UnknownTable }) | Some table ↦ None ]
 
+-- the index that a scan names, where it is there
 abbrev pub scan_index : Known → Named → Named → Option Index
 scan_index known t i = option_and_then (λ table. index_of table i.text) (table_of known t.text)
 
+-- the table has to have the index
 abbrev pub index_fault : Known → Named → Named → First
 index_fault known t i = elim (scan_index known t i) [ None ↦ Some (record { at = i.at; kind = UnknownIndex }) | Some index ↦ None ]
 
+-- the fields of that index in order
 abbrev pub scan_fields : Known → Named → Named → List (List ℕ)
 scan_fields known t i = elim (scan_index known t i) [ None ↦ [] | Some index ↦ index.fields ]
 
 abbrev mutual
+  -- an expression, with its parts as they stand in the text
   pub expr_fault : Known → Expr → First
   expr_fault known (expr at form) = form_fault known at form
 
@@ -93,6 +102,7 @@ abbrev mutual
   form_fault known at (unary op e) = expr_fault known e
   form_fault known at (binary op a b) = expr_fault known a before expr_fault known b
 
+  -- expressions one after another
   pub exprs_fault : Known → Exprs → First
   exprs_fault known no_exprs = None
   exprs_fault known (then_expr e es) = expr_fault known e before exprs_fault known es
@@ -111,6 +121,7 @@ abbrev mutual
         | Some next ↦ expr_fault known e before bounds_fault known fields next bs
       ]
 
+  -- what limits a scan
   pub limit_fault : Known → Limit → First
   limit_fault known all_rows = None
   limit_fault known (up_to e) = expr_fault known e

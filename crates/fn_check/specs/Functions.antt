@@ -23,19 +23,23 @@ use Rattle.fn_tree.specs.declared.syntax.Named.{Named}
 abbrev pub begun : Known → Bool → Known
 begun known query = record known { query = query; here = []; outer = [] }
 
+-- whether a function of the kind is a query
 abbrev pub is_query : Kind → Bool
 is_query Query = true
 is_query Mutation = false
 is_query Helping = false
 
+-- parameters one after another
 abbrev pub params_fault : Known → List Named → First
 params_fault known [] = None
 params_fault known (p ∷ ps) = declare_fault known p before params_fault (with_visible known p.text) ps
 
+-- the names with those of parameters
 abbrev pub with_names : Names → List Named → Names
 with_names names [] = names
 with_names names (p ∷ ps) = with_names (with_name names p.text) ps
 
+-- where the parameters are visible
 abbrev pub with_params : Known → List Named → Known
 with_params known ps = record known { here = with_names known.here ps }
 
@@ -53,6 +57,7 @@ helpers_with Query helpers name h = helpers
 helpers_with Mutation helpers name h = helpers
 helpers_with Helping helpers name h = insert_entry text_cmp helpers name h
 
+-- what is known when a function of a kind is complete
 abbrev pub completed : Kind → Known → List ℕ → Helper → Known
 completed kind known name h = record known { helpers = helpers_with kind known.helpers name h }
 
@@ -66,14 +71,17 @@ names_behind Query names udf = with_name names udf
 names_behind Mutation names udf = with_name names udf
 names_behind Helping names udf = names
 
+-- whether a function of the kind and the name is declared
 abbrev pub is_taken : Kind → Known → Names → List ℕ → Bool
 is_taken Query known names udf = has_name names udf
 is_taken Mutation known names udf = has_name names udf
 is_taken Helping known names udf = is_some (helper_of known udf)
 
+-- the name of a function, after so many functions
 abbrev pub name_fault : Known → Names → ℕ → FunctionTree → First
 name_fault known names count f = fault_if (is_taken f.kind known names f.udf) f.at DuplicateFunction before fault_if (nat_le 1024 count) f.at TooManyFunctions
 
+-- a function, after so many
 abbrev pub function_fault : Known → Names → ℕ → FunctionTree → First
 function_fault known names count f = name_fault known names count f before body_fault (begun known (is_query f.kind)) f
 

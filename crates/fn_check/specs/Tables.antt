@@ -17,6 +17,7 @@ listed_fault bad seen count limit again many n = fault_if bad n.at BadName befor
 abbrev pub is_bad_index : List ℕ → Bool
 is_bad_index name = is_bad_name true name || same_text name (codes "by_id") || same_text name (codes "by_creation_time")
 
+-- a field of an index
 abbrev pub field_fault : Names → ℕ → Named → First
 field_fault seen count f = listed_fault (is_bad_name true f.text) seen count 16 DuplicateField TooManyFields f
 
@@ -25,6 +26,7 @@ abbrev pub fields_fault : Names → ℕ → List Named → First
 fields_fault seen count [] = None
 fields_fault seen count (f ∷ fs) = field_fault seen count f before fields_fault (with_name seen f.text) (count + 1) fs
 
+-- an index: its name and then its fields
 abbrev pub index_decl_fault : Names → ℕ → IndexTree → First
 index_decl_fault seen count i = listed_fault (is_bad_index i.name.text) seen count 32 DuplicateIndex TooManyIndexes i.name before fields_fault [] 0 i.fields
 
@@ -33,6 +35,7 @@ abbrev pub indexes_fault : Names → ℕ → List IndexTree → First
 indexes_fault seen count [] = None
 indexes_fault seen count (i ∷ is) = index_decl_fault seen count i before indexes_fault (with_name seen i.name.text) (count + 1) is
 
+-- a table: its name and then its indexes
 abbrev pub table_decl_fault : Names → ℕ → TableTree → First
 table_decl_fault seen count t = listed_fault (is_bad_name true t.name.text) seen count 64 DuplicateTable TooManyTables t.name before indexes_fault [] 0 t.indexes
 

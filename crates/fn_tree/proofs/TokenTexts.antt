@@ -64,3 +64,9 @@ tokens_are_texts text u k d h =
     let x : Lexeme = get_or (lexemes_of text).lexemes k d in
     let is : IsToken (drop x.at text) x.len = token_at (drop x.at text) x.terminal x.len (tokens_are_read text k d h) in
     (text_whole (slice_of text x) (slice_text text x.at x.len u is), text_whole (string_value (slice_of text x)) (said_text text x.at x.len u is))
+
+-- the bytes of a token of a text, and what they say as a string
+pub token_utf8 : (text : List ℕ) (x : Lexeme) → IsUtf8 text → begins (drop x.at text) ≡ Token x.terminal x.len → IsUtf8 (slice_of text x) × IsUtf8 (string_value (slice_of text x))
+token_utf8 text x u e =
+    let is : IsToken (drop x.at text) x.len = token_at (drop x.at text) x.terminal x.len e in
+    (slice_text text x.at x.len u is, said_text text x.at x.len u is)

@@ -63,7 +63,7 @@ and_right : (a b : Bool) → (a && b) ≡ true → b ≡ true
 and_right true b h = h
 and_right false b h = cc
 
-no_greater : (digits : List ℕ) → is_integer digits ≡ true → integer_value digits ≤ greatest_integer
+pub no_greater : (digits : List ℕ) → is_integer digits ≡ true → integer_value digits ≤ greatest_integer
 unfolding integer_value
 no_greater digits h = elim (one_of_two (bytes_eq digits (codes "0")) _ h) [
   | inl zeros ↦ let e : digits ≡ codes "0" = (bytes_eq-Decides digits (codes "0")).0 zeros in rw e (omega arith)

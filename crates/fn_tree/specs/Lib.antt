@@ -1,4 +1,5 @@
 pub mod Canonical
+pub mod CanonicalLaws
 pub mod Documents
 pub mod Examples
 pub mod FirstForm
@@ -15,6 +16,7 @@ pub mod ModuleLaws
 pub mod ModuleTexts
 pub mod Nesting
 pub mod ParseTrees
+pub mod Placeless
 pub mod Rules
 pub mod Run
 pub mod Spellings

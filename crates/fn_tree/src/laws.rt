@@ -1,5 +1,6 @@
 //! Laws of the definitions, each a function with nothing to do.
 ghost use Rattle.fn_tree.specs.HistoryLaws.{FrontsAreLegal, GoOnByRuns, IdsHavePairs};
+ghost use Rattle.fn_tree.specs.CanonicalLaws.{CanonicalReadsBack};
 ghost use Rattle.fn_tree.specs.Examples.{IsWorkedExample};
 ghost use Rattle.fn_tree.specs.LexemeExamples.{IsWorkedTokens, IsWorkedNesting};
 ghost use Rattle.fn_tree.specs.LexemeLaws.{TokensStandApart, BadComesAfter, TokensAreRead, IntegersFit, TokensAreTexts};
@@ -39,4 +40,10 @@ pub fn worked_tokens()
 /// Bytes are the text of at most one module.
 pub fn at_most_one_module()
     ensures { AtMostOneModule }
+{}
+
+/// The canonical text of the module of a text, where it isn't too long, is a text of the same module up
+/// to places.
+pub fn canonical_texts()
+    ensures { CanonicalReadsBack }
 {}

@@ -22,7 +22,8 @@ pub use begin::Begin;
 pub use entry::{Call, Entry, Reply};
 pub use fault::{SyntaxFault, Why};
 pub use laws::{
-    at_most_one_module, legal_histories, tokens_of_texts, worked_histories, worked_tokens,
+    at_most_one_module, canonical_texts, legal_histories, tokens_of_texts, worked_histories,
+    worked_tokens,
 };
 pub use lexeme::{Lexeme, Mark, Terminal, Word};
 pub use printer::print;

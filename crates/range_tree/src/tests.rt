@@ -73,7 +73,7 @@ fn hits_exactly(alloc: Global, tree: &RangeTree, at: u64, owners: &[u64]) -> Res
 }
 
 #[test]
-fn row_23_two_ranges(rt: HostRuntime) -> Result<(), Fail> {
+fn two_ranges(rt: HostRuntime) -> Result<(), Fail> {
     let alloc = rt.alloc();
     let mut tree = RangeTree::new();
     assert!(rt; put(alloc, &mut tree, 15, 30, 2)?);
