@@ -6,7 +6,7 @@ use Rattle.std.proofs.lemmas.Str.{IsUtf8-from_ascii}
 use Rattle.std.proofs.lemmas.Str.Ascii.{IsAscii-nil, IsAscii-cons}
 use Rattle.std.proofs.lemmas.List.Folds.{list_all-append}
 use Rattle.std.proofs.lemmas.Bool.Decides.{leb_tells}
-use Rattle.fn_tree.specs.FirstForm.{Body, inserts, counts, Function, Program}
+use Rattle.convexd.specs.FirstForm.{Body, inserts, counts, Function, Program}
 use Rattle.convexd.specs.ModuleText.{is_letter, is_word, is_udf, is_body, is_function, is_program, body_text, function_text, table_text, program_text}
 use Rattle.convexd.specs.Guess.{before, after}
 use Rattle.convexd.proofs.CutLemmas.{and_left, and_right, and_both, udf_parts, word_letters}

@@ -2,7 +2,7 @@
 use Rattle.std.proofs.Common.{◌≡◌, ℕ, ◌+◌, ◌<◌, List, [], ◌∷◌, ◌++◌, length, drop, take, Option, Some, refl, sym, ap, ◌∙◌, append_assoc, append-nil, suc, get_or, add-one, drop-cons}
 use Rattle.std.specs.Io.KnownBytes.{Appends}
 use Rattle.cv_outside.specs.Causes.{AppendsPart}
-use Rattle.fn_tree.specs.History.{History}
+use Rattle.convexd.specs.FirstHistory.{History}
 use Rattle.fn_tree.specs.declared.entry.Entry.{Entry}
 use Rattle.convexd.specs.Play.{entry_line, entry_lines}
 use Rattle.convexd.proofs.Writes.{Appends-none, Appends-append, part_more}

@@ -1,9 +1,9 @@
 -- The entry of a session's request in a history.
 use Rattle.std.proofs.Common.{◌≡◌, ℕ, zero, suc, ◌+◌, ◌-◌, ◌<◌, ◌≤◌, List, [], ◌∷◌, ◌++◌, Bool, true, false, ◌&&◌, cond, length, eqb, eq-eqb, Option, Some, None, refl, sym, ap, ◌∙◌, subst, arith, get_or}
 use Rattle.std.specs.Prelude.{◌≢◌, is_some, slice_get}
-use Rattle.fn_tree.specs.FirstForm.{Program}
-use Rattle.fn_tree.specs.History.{History, Pair, HasNoPair, pair_of, docs_after}
-use Rattle.fn_tree.specs.Run.{run}
+use Rattle.convexd.specs.FirstForm.{Program}
+use Rattle.convexd.specs.FirstHistory.{History, Pair, HasNoPair, pair_of, docs_after}
+use Rattle.convexd.specs.FirstRun.{run}
 use Rattle.fn_tree.specs.declared.entry.Call.{Call}
 use Rattle.fn_tree.specs.declared.entry.Entry.{Entry}
 use Rattle.fn_tree.specs.declared.entry.Reply.{Reply}

@@ -3,7 +3,7 @@ use Rattle.std.proofs.Common.{◌≡◌, ℕ, zero, suc, ◌+◌, ◌-◌, ◌<�
 use Rattle.std.specs.Prelude.{map}
 use Rattle.std.proofs.lemmas.List.{map-append}
 use Rattle.std.proofs.lemmas.Bool.Decides.{eqb_tells}
-use Rattle.fn_tree.specs.FirstForm.{Function}
+use Rattle.convexd.specs.FirstForm.{Function}
 use Rattle.convexd.specs.Guess.{before, after, guess_function, guess_functions}
 use Rattle.convexd.specs.ModuleViews.{function_view}
 use Rattle.convexd.specs.declared.first_form.ModuleFunction.{ModuleFunction}

@@ -3,7 +3,7 @@ use Rattle.std.proofs.Common.{◌≡◌, ℕ, zero, suc, ◌<◌, ◌≤◌, Lis
 use Rattle.std.specs.List.{list_all, flat_map}
 use Rattle.std.proofs.lemmas.List.Folds.{list_all-append}
 use Rattle.std.proofs.lemmas.Bool.Decides.{eqb_tells, leb_tells}
-use Rattle.fn_tree.specs.FirstForm.{Body, inserts, counts, Function, Program}
+use Rattle.convexd.specs.FirstForm.{Body, inserts, counts, Function, Program}
 use Rattle.convexd.specs.ModuleText.{is_word, is_udf, is_body, is_function, is_program, body_text, function_text, program_text}
 use Rattle.convexd.specs.Guess.{before, after, guess_body, guess_function, guess_functions, guess}
 use Rattle.convexd.proofs.CutLemmas.{lacks, and_left, and_right, before_at, after_at, word_lacks, udf_lacks}

@@ -10,15 +10,15 @@ use Rattle.std.proofs.lemmas.Bool.Decides.{eqb_tells}
 use Rattle.std.specs.declared.cmp.Ordering.{Ordering}
 use Rattle.cv_values.specs.Value.{Value}
 use Rattle.fn_tree.specs.Documents.{Docs, doc_of, applied, table_docs}
-use Rattle.fn_tree.specs.FirstForm.{Program}
-use Rattle.fn_tree.specs.History.{History, IsLegal, Pair, docs_after}
-use Rattle.fn_tree.specs.Run.{run, inserted, first_id, new_doc}
+use Rattle.convexd.specs.FirstForm.{Program}
+use Rattle.convexd.specs.FirstHistory.{History, IsLegal, Pair, docs_after}
+use Rattle.convexd.specs.FirstRun.{run, inserted, first_id, new_doc}
 use Rattle.fn_tree.specs.declared.entry.Call.{Call}
 use Rattle.fn_tree.specs.declared.entry.Entry.{Entry}
 use Rattle.fn_tree.specs.declared.entry.Reply.{Reply}
 use Rattle.cv_keys.specs.declared.write.Write.{Write}
-use Rattle.fn_tree.proofs.Legal.{docs_after-end}
-use Rattle.fn_tree.proofs.OriginOfIds.{fresh_id, without_absent, run_writes}
+use Rattle.convexd.proofs.FirstLegal.{docs_after-end}
+use Rattle.convexd.proofs.FirstIds.{fresh_id, without_absent, run_writes}
 use Rattle.convexd.specs.Contents.{Holds, entry_from, found, has_pair, pair_cmp, pair_in, ts_in}
 use Rattle.convexd.specs.declared.contents.Contents.{Contents}
 use Rattle.convexd.proofs.Found.{unknown_pair, found_front, found_end, own_pair}

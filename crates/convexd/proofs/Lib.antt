@@ -4,6 +4,8 @@ pub mod Checking
 pub mod CutLemmas
 pub mod EntryLines
 pub mod EntryTexts
+pub mod FirstIds
+pub mod FirstLegal
 pub mod Found
 pub mod GuessLemmas
 pub mod GuessWhole

@@ -1,13 +1,13 @@
 -- What a script plays is one log.
 use Rattle.std.proofs.Common.{◌≡◌, ℕ, ◌+◌, List, [], ◌∷◌, ◌++◌, length, Option, None, Some, refl, sym, ap, ◌∙◌, subst, append_assoc, append-nil}
 use Rattle.std.specs.Option.{option_map_or}
-use Rattle.fn_tree.specs.FirstForm.{Program}
-use Rattle.fn_tree.specs.History.{History, IsLegal, docs_after}
-use Rattle.fn_tree.specs.Run.{run}
+use Rattle.convexd.specs.FirstForm.{Program}
+use Rattle.convexd.specs.FirstHistory.{History, IsLegal, docs_after}
+use Rattle.convexd.specs.FirstRun.{run}
 use Rattle.fn_tree.specs.declared.entry.Call.{Call}
 use Rattle.fn_tree.specs.declared.entry.Entry.{Entry}
 use Rattle.fn_tree.specs.declared.entry.Reply.{Reply}
-use Rattle.fn_tree.proofs.Legal.{go_on_by_runs}
+use Rattle.convexd.proofs.FirstLegal.{go_on_by_runs}
 use Rattle.convexd.specs.Contents.{found, pair_in, entry_from, after_call}
 use Rattle.convexd.specs.Lines.{text_of}
 use Rattle.convexd.specs.Play.{Played, play, after_text, after_event, event_text, told, told_by, telling, reply_line, entry_lines, ts_line, IsOneLog}

@@ -1,6 +1,6 @@
 -- A text is that of at most one program.
 use Rattle.std.proofs.Common.{◌≡◌, inl, inr, ℕ, List, sym, ap, ◌∙◌, arith}
-use Rattle.fn_tree.specs.FirstForm.{Program}
+use Rattle.convexd.specs.FirstForm.{Program}
 use Rattle.convexd.specs.ModuleText.{IsTextOf}
 use Rattle.convexd.specs.Guess.{guess}
 use Rattle.convexd.proofs.GuessWhole.{program_guessed}

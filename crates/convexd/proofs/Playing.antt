@@ -4,8 +4,8 @@ use Rattle.std.specs.Option.{option_map_or}
 use Rattle.std.specs.Io.KnownBytes.{Appends}
 use Rattle.cv_outside.specs.Causes.{AppendsPart}
 use Rattle.convexd.specs.Lines.{text_of}
-use Rattle.fn_tree.specs.FirstForm.{Program}
-use Rattle.fn_tree.specs.History.{History}
+use Rattle.convexd.specs.FirstForm.{Program}
+use Rattle.convexd.specs.FirstHistory.{History}
 use Rattle.convexd.specs.ScriptLine.{event_of}
 use Rattle.convexd.specs.declared.script_line.ScriptLine.{ScriptLine}
 use Rattle.convexd.specs.Play.{Played, play, after_text, after_event, event_text, line_output, ts_line}

@@ -4,9 +4,9 @@ use Rattle.std.specs.BTreeMap.{get}
 use Rattle.std.specs.Ordering.{nat_cmp, ordering_then}
 use Rattle.std.specs.declared.cmp.Ordering.{Ordering}
 use Rattle.fn_tree.specs.Documents.{table_docs}
-use Rattle.fn_tree.specs.FirstForm.{Program}
-use Rattle.fn_tree.specs.History.{History, IsLegal, Pair, docs_after}
-use Rattle.fn_tree.specs.Run.{Outcome, run}
+use Rattle.convexd.specs.FirstForm.{Program}
+use Rattle.convexd.specs.FirstHistory.{History, IsLegal, Pair, docs_after}
+use Rattle.convexd.specs.FirstRun.{Outcome, run}
 use Rattle.fn_tree.specs.declared.entry.Call.{Call}
 use Rattle.fn_tree.specs.declared.entry.Entry.{Entry}
 use Rattle.fn_tree.specs.declared.entry.Reply.{Reply}

@@ -1,7 +1,7 @@
 -- The program that a module text must be of, if it is the text of one.
 use Rattle.std.specs.Prelude.{ℕ, zero, suc, List, [], ◌∷◌, length, ◌==◌, if◌then◌else◌}
 use Rattle.std.specs.List.{before_first, after_first}
-use Rattle.fn_tree.specs.FirstForm.{Body, inserts, counts, Function, Program}
+use Rattle.convexd.specs.FirstForm.{Body, inserts, counts, Function, Program}
 
 abbrev pub before : ℕ → List ℕ → List ℕ
 before c s = before_first (λ b. b == c) s

@@ -1,6 +1,11 @@
 pub mod Check
 pub mod Contents
 pub mod EntryJson
+pub mod FirstExamples
+pub mod FirstForm
+pub mod FirstHistory
+pub mod FirstLaws
+pub mod FirstRun
 pub mod Guess
 pub mod Lines
 pub mod ModuleText

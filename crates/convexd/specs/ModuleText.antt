@@ -2,7 +2,7 @@
 use Rattle.std.specs.Prelude.{◌≡◌, ◌⊎◌, List, [], ◌∷◌, ◌++◌, codes, ℕ, Bool, true, not, ◌&&◌, ◌==◌, nat_le, nat_lt, length}
 use Rattle.std.specs.Str.{bytes_eq}
 use Rattle.std.specs.List.{flat_map, list_all, list_any, before_first, after_first}
-use Rattle.fn_tree.specs.FirstForm.{Body, inserts, counts, Function, Program}
+use Rattle.convexd.specs.FirstForm.{Body, inserts, counts, Function, Program}
 
 -- a program without a table
 abbrev pub no_program : Program

@@ -1,6 +1,6 @@
 -- The programs that the program's own structs stand for.
 use Rattle.std.specs.Prelude.{map}
-use Rattle.fn_tree.specs.FirstForm.{Body, inserts, counts, Function, Program}
+use Rattle.convexd.specs.FirstForm.{Body, inserts, counts, Function, Program}
 use Rattle.convexd.specs.declared.first_form.FunctionBody.{FunctionBody}
 use Rattle.convexd.specs.declared.first_form.FunctionBody.TheVariants.{Insert, Count}
 use Rattle.convexd.specs.declared.first_form.ModuleFunction.{ModuleFunction}

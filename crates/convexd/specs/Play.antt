@@ -5,8 +5,8 @@ use Rattle.serde_json.specs.Data as json
 use Rattle.serde_json.specs.Written.{compact_text}
 use Rattle.cv_json.specs.Json.{json_of}
 use Rattle.cv_values.specs.Trees.{tree}
-use Rattle.fn_tree.specs.FirstForm.{Program}
-use Rattle.fn_tree.specs.History.{History, IsLegal}
+use Rattle.convexd.specs.FirstForm.{Program}
+use Rattle.convexd.specs.FirstHistory.{History, IsLegal}
 use Rattle.fn_tree.specs.declared.entry.Call.{Call}
 use Rattle.fn_tree.specs.declared.entry.Entry.{Entry}
 use Rattle.fn_tree.specs.declared.entry.Reply.{Reply}

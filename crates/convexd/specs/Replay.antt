@@ -3,7 +3,7 @@ use Rattle.std.specs.Prelude.{◌≡◌, ◌⊎◌, ◌<◌, ◌≤◌, ◌+◌,
 use Rattle.std.specs.Io.KnownBytes.{Appends}
 use Rattle.cv_outside.specs.Causes.{AppendsPart}
 use Rattle.cv_outside.specs.declared.whole.TheConstants.{INPUT_LIMIT}
-use Rattle.fn_tree.specs.FirstForm.{Program}
+use Rattle.convexd.specs.FirstForm.{Program}
 use Rattle.convexd.specs.Lines.{lines_of, halves, concat}
 use Rattle.convexd.specs.ModuleText.{IsTextOf}
 use Rattle.convexd.specs.Play.{Played, play, IsOneLog}

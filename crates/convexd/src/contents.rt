@@ -4,7 +4,7 @@ ghost use Rattle.std.specs.BTreeMap.{get, Updates};
 ghost use Rattle.std.specs.Option.{option_map};
 ghost use Rattle.cv_values.specs.Trees.{tree};
 ghost use Rattle.fn_tree.specs.Documents.{Docs, doc_of, table_docs};
-ghost use Rattle.fn_tree.specs.Run.{argument_of, counted, fails, first_id, inserted, new_doc, run, run_body};
+ghost use Rattle.convexd.specs.FirstRun.{argument_of, counted, fails, first_id, inserted, new_doc, run, run_body};
 ghost use Rattle.fn_tree.specs.declared.entry.Entry.{Entry as EntryOf};
 ghost use Rattle.convexd.specs.ModuleViews.{body_view, program_view};
 

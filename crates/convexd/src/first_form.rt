@@ -2,7 +2,7 @@
 ghost use Rattle.std.specs.Prelude.{◌≡◌, find};
 ghost use Rattle.std.specs.Option.{option_map, option_copied};
 ghost use Rattle.std.specs.Str.{bytes_eq};
-ghost use Rattle.fn_tree.specs.FirstForm.{function_of};
+ghost use Rattle.convexd.specs.FirstForm.{function_of};
 ghost use Rattle.convexd.specs.ModuleViews.{function_view, program_view};
 
 mod canonical;

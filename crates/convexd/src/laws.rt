@@ -1,6 +1,7 @@
 //! Laws of the definitions, each a function with nothing to do.
 ghost use Rattle.std.specs.Prelude.{List, ℕ, Option, [], ◌≡◌};
-ghost use Rattle.fn_tree.specs.FirstForm.{Program};
+ghost use Rattle.convexd.specs.FirstExamples.{IsWorkedExample};
+ghost use Rattle.convexd.specs.FirstForm.{Program};
 ghost use Rattle.convexd.specs.ModuleText.{IsTextOf};
 ghost use Rattle.convexd.specs.Play.{IsOneLog, play};
 ghost use Rattle.convexd.specs.Replay.{IsGood, Replays, IsDoneOrFault, TellsOfInput};
@@ -13,6 +14,11 @@ use fn_tree::at_most_one_module;
 /// A text is that of at most one program.
 pub fn at_most_one_program()
     ensures { (p q : Program) (text : List ℕ) → IsTextOf p text → IsTextOf q text → p ≡ q }
+{}
+
+/// The definitions of the first form, computed on two inserts and a count.
+pub fn worked_histories()
+    ensures { IsWorkedExample }
 {}
 
 /// What a script plays is one log: a legal history, told reply by reply.

@@ -27,7 +27,7 @@ pub use exit::{Exit, ModuleFault};
 pub use first_form::{FunctionBody, Module, ModuleFunction, find_function, read_module};
 pub use laws::{
     accepted_modules_end, answers_exclude_each_other, at_most_one_program,
-    checks_exclude_each_other, good_inputs_end, scripts_make_one_log,
+    checks_exclude_each_other, good_inputs_end, scripts_make_one_log, worked_histories,
 };
 pub use lines::{Parts, cut, line_text, split_line};
 pub use play::{PlayFault, play_script};

@@ -8,7 +8,7 @@ use Rattle.fn_check.specs.Effects.{stmts_do}
 use Rattle.fn_check.specs.Expressions.{First}
 use Rattle.fn_check.specs.Faults.{◌before◌, fault_if}
 use Rattle.fn_check.specs.Known.{Known, Names, has_name, with_name, with_visible, helper_of}
-use Rattle.fn_check.specs.Schemas.{schema_of}
+use Rattle.fn_tree.specs.Schemas.{schema_of}
 use Rattle.fn_check.specs.Statements.{declare_fault, stmts_fault}
 use Rattle.fn_check.specs.Tables.{tables_fault}
 use Rattle.fn_check.specs.declared.effects.Effect.TheVariants.{Write, Now}

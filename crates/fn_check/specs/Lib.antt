@@ -5,6 +5,5 @@ pub mod Expressions
 pub mod Faults
 pub mod Functions
 pub mod Known
-pub mod Schemas
 pub mod Statements
 pub mod Tables

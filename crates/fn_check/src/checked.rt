@@ -1,6 +1,6 @@
 ghost use Rattle.std.specs.Prelude.{◌≡◌, None, IfOk};
 ghost use Rattle.fn_check.specs.Functions.{first_fault};
-ghost use Rattle.fn_check.specs.Schemas.{schema_of};
+ghost use Rattle.fn_tree.specs.Schemas.{schema_of};
 ghost use Rattle.fn_tree.specs.SyntaxViews.{module_view};
 
 use crate::copy::copy_module;

@@ -2,7 +2,7 @@
 ghost use Rattle.std.specs.Prelude.{◌≡◌, IfOk, IfErr, None, Some};
 ghost use Rattle.fn_check.specs.Faults.{Tells};
 ghost use Rattle.fn_check.specs.Functions.{first_fault};
-ghost use Rattle.fn_check.specs.Schemas.{schema_of};
+ghost use Rattle.fn_tree.specs.Schemas.{schema_of};
 ghost use Rattle.fn_tree.specs.SyntaxViews.{module_view};
 
 use crate::checked::Checked;
@@ -32,7 +32,7 @@ fn checked_schema(alloc: Global, m: &Module) -> Result<Schema, Stop>
 /// and those of a function once more each for what it writes and whether it uses `now`; a name costs a
 /// search over the names that can be meant, in each block around it.
 pub fn check(alloc: Global, m: Module) -> Result<Result<Checked, CheckFault>, Memory>
-    ensures good { IfOk result (λ r. IfOk r (λ checked. (first_fault (module_view m) ≡ None) × (checked.tree ≡ m))) }
+    ensures good { IfOk result (λ r. IfOk r (λ checked. (first_fault (module_view m) ≡ None) × (module_view checked.tree ≡ module_view m))) }
     ensures bad { IfOk result (λ r. IfErr r (λ fault. first_fault (module_view m) ≡ Some fault)) }
 {
     match checked_schema(alloc, &m) {

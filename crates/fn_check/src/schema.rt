@@ -1,6 +1,6 @@
 //! The schema of a module's tables.
 ghost use Rattle.std.specs.Prelude.{◌≡◌, ◌++◌, IfOk, OnOk, map};
-ghost use Rattle.fn_check.specs.Schemas.{last_fields, by_id, by_creation_time, text_of, declared_index, declared_table, schema_of};
+ghost use Rattle.fn_tree.specs.Schemas.{last_fields, by_id, by_creation_time, text_of, declared_index, declared_table, schema_of};
 ghost use Rattle.fn_tree.specs.SyntaxViews.{index_view, table_view};
 
 use cv_keys::{Index, Schema, Table};

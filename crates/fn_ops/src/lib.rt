@@ -30,5 +30,6 @@ pub use arithmetic::{add, divide, multiply, negate, not, remainder, show, subtra
 pub use arrays::{array_of, push, push_onto, range, slice};
 pub use fault::OpFault;
 pub use laws::{changes_are_read_back, division_is_exact, worked_operations};
+pub use limits::made;
 pub use objects::{keys, object_of, set, set_in, without};
 pub use reads::{field, has, item, length};

@@ -1,67 +1,76 @@
--- The run of a call of a program on documents: its reply and its writes.
--- It is the whole run of programs of the first form, on calls whose arguments are integers.
-use Rattle.std.specs.Prelude.{ℕ, pos, Bool, false, List, [], ◌∷◌, length, ◌==◌, nat_lt, if◌then◌else◌, is_some, Option, Some, None, codes}
-use Rattle.std.specs.Option.{option_map_or}
-use Rattle.std.specs.Str.{bytes_eq}
-use Rattle.cv_values.specs.Equality.{untree}
-use Rattle.cv_values.specs.Value.{Value}
-use Rattle.cv_values.specs.declared.doc.Doc.{Doc}
+-- The run of a call on documents: its reply, its writes, what it read, and its cost.
+use Rattle.std.specs.Prelude.{ℕ, Bool, false, ◌||◌, cond, List, [], ◌∷◌, ◌++◌, is_some}
 use Rattle.cv_values.specs.declared.ids.DocId.{DocId}
-use Rattle.cv_values.specs.declared.val.Val.TheVariants.{Int}
-use Rattle.fn_tree.specs.Documents.{Docs, doc_of, table_docs}
-use Rattle.fn_tree.specs.FirstForm.{Body, inserts, counts, Program, function_of}
-use Rattle.fn_tree.specs.declared.entry.Call.{Call}
-use Rattle.fn_tree.specs.declared.entry.Reply.{Reply}
-use Rattle.fn_tree.specs.declared.entry.Reply.TheVariants.{Value as Gives, Failed}
+use Rattle.cv_keys.specs.Places.{PlaceInterval}
+use Rattle.cv_keys.specs.declared.schema.Schema.{Schema}
 use Rattle.cv_keys.specs.declared.write.Write.{Write}
+use Rattle.fn_tree.specs.Actions.{Limits}
+use Rattle.fn_tree.specs.Course.{Reply, gives, failed, Course, done, ask, put}
+use Rattle.fn_tree.specs.Documents.{Docs, same_id, doc_of, with_doc}
+use Rattle.fn_tree.specs.Functions.{Start, limits_of, course_within}
+use Rattle.fn_tree.specs.Scan.{answer}
+use Rattle.fn_tree.specs.Schemas.{schema_of}
+use Rattle.fn_tree.specs.SyntaxTree.{ModuleTree}
+use Rattle.fn_tree.specs.declared.stop.Put.{Put}
 
-pub record Outcome : Type 0 where
+-- the documents after some puts, one after another
+abbrev pub with_puts : List Put → Docs → Docs
+with_puts [] ds = ds
+with_puts (p ∷ ps) ds = with_puts ps (with_doc p.id p.new ds)
+
+-- ---- a course on documents
+
+-- what came of a course that was followed to its end
+pub record Played : Type 0 where
+  pub reply : Reply
+  pub puts : List Put
+  pub reads : List PlaceInterval
+  pub cost : ℕ
+
+-- a course followed on these documents, after these puts: each read sees the documents with the puts so far
+abbrev pub played : Schema → Docs → List Put → Course → Played
+played schema ds puts (done o) = record { reply = o.reply; puts = puts; reads = []; cost = o.cost }
+played schema ds puts (put p next) = played schema ds (puts ++ p ∷ []) next
+played schema ds puts (ask q next) =
+    let a = answer schema (with_puts puts ds) q in
+    let rest = played schema ds puts (next a.docs) in
+    record rest { reads = a.consumed ∷ rest.reads }
+
+-- ---- writes
+
+abbrev pub puts_to : DocId → List Put → Bool
+puts_to id [] = false
+puts_to id (p ∷ ps) = same_id id p.id || puts_to id ps
+
+abbrev pub unless_gone : Write → List Write → List Write
+unless_gone w ws = cond (is_some w.old || is_some w.new) (w ∷ ws) ws
+
+-- one write for each id, in order of its first put: the document before the run and the one after it; none where there is neither
+abbrev pub writes_to : (before after : Docs) → (earlier puts : List Put) → List Write
+writes_to before after earlier [] = []
+writes_to before after earlier (p ∷ ps) =
+    let rest = writes_to before after (p ∷ earlier) ps in
+    cond (puts_to p.id earlier) rest
+    (unless_gone (record { id = p.id; old = doc_of p.id before; new = doc_of p.id after }) rest)
+
+-- an error drops the writes
+abbrev pub writes_of : Reply → Docs → List Put → List Write
+writes_of (gives v) ds puts = writes_to ds (with_puts puts ds) [] puts
+writes_of (failed why) ds puts = []
+
+-- ---- the run
+
+pub record Run : Type 0 where
   pub reply : Reply
   pub writes : List Write
+  pub reads : List PlaceInterval
+  pub cost : ℕ
 
--- an error ends a run, whose writes are dropped
-abbrev pub fails : List ℕ → Outcome
-fails why = record { reply = Failed why; writes = [] }
+abbrev pub run_of : Docs → Played → Run
+run_of ds p = record { reply = p.reply; writes = writes_of p.reply ds p.puts; reads = p.reads; cost = p.cost }
 
--- the id of the first document that a call inserts
-abbrev pub first_id : Call → DocId
-first_id call = record { table = 0; session = call.session; request = call.request; ordinal = 0 }
+abbrev pub run_within : Limits → ModuleTree → Start → Docs → Run
+run_within limits m s ds = run_of ds (played (schema_of m.tables) ds [] (course_within limits m s))
 
--- the document that a call inserts, with one field
-abbrev pub new_doc : Call → List ℕ → Value → Doc
-new_doc call field v = record { id = first_id call; creation = call.now; fields = (field, v) ∷ [] }
-
--- the only argument, where its name is the parameter's
-abbrev pub argument_of : List ℕ → List (List ℕ × Value) → Option Value
-argument_of param [] = None
-argument_of param (a ∷ []) = if bytes_eq a.0 param then Some a.1 else None
-argument_of param (a ∷ b ∷ more) = None
-
-abbrev pub inserted : Call → List ℕ → Value → Docs → Outcome
-inserted call field v ds = record {
-  reply = Gives (untree v);
-  writes = record { id = first_id call; old = doc_of (first_id call) ds; new = Some (new_doc call field v) } ∷ [];
-}
-
--- at most 8,192 documents can be counted
-abbrev pub counted : ℕ → Outcome
-counted n = if nat_lt 8192 n then fails (codes "TooMany") else record { reply = Gives (Int (pos n)); writes = [] }
-
-abbrev pub run_body : Body → Call → Docs → Outcome
-run_body (inserts param field) call ds = option_map_or (λ v. inserted call field v ds) (argument_of param call.args) (fails (codes "BadArguments"))
-run_body counts call ds = if length call.args == 0 then counted (length (table_docs 0 ds)) else fails (codes "BadArguments")
-
--- the run of a call on documents
-abbrev pub run : Program → Call → Docs → Outcome
-run p call ds = option_map_or (λ f. run_body f.body call ds) (function_of p call.udf) (fails (codes "UnknownFunction"))
-
--- ---- which calls a program takes
-
--- the names of the arguments are exactly the parameters'
-abbrev pub takes : Body → List (List ℕ × Value) → Bool
-takes (inserts param field) args = is_some (argument_of param args)
-takes counts args = length args == 0
-
--- the program has the function, and the arguments are its parameters
-abbrev pub fits : Program → Call → Bool
-fits p call = option_map_or (λ f. takes f.body call.args) (function_of p call.udf) false
+abbrev pub run : ModuleTree → Start → Docs → Run
+run m s ds = run_within (limits_of s.origin) m s ds

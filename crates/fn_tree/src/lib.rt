@@ -1,11 +1,11 @@
-//! Calls, replies, writes and the log's entries, and what they mean: documents, the run of a call,
-//! histories and what makes one legal.
+//! The function language: its tokens, grammar and syntax trees, and what a program means.
 //!
-//! A history is the list of a log's entries in order. It is legal where each entry is the run of its
-//! call on the documents that the entries before it left, and no two entries have one session's
-//! request: a run of one thread. The idea is that of the
-//! [article How Convex Works](https://stack.convex.dev/how-convex-works); the definitions in `specs/`
-//! are this project's own.
+//! A function means a *course*: what it asks for and puts, in order, whatever the answers are. Followed
+//! on documents a course is a run, with reply, writes, reads and cost. A history is the list of a log's
+//! entries in order. It is legal where each entry is the run of its call on the documents that the
+//! entries before it left, and no two entries have one session's request: a run of one thread. The idea
+//! is that of the [article How Convex Works](https://stack.convex.dev/how-convex-works); the definitions
+//! in `specs/` are this project's own.
 #![tactic(auto)]
 
 mod begin;
@@ -14,6 +14,8 @@ mod fault;
 mod laws;
 mod lexeme;
 mod printer;
+mod start;
+mod stop;
 mod syntax;
 #[cfg(test)]
 mod tests;
@@ -22,11 +24,13 @@ pub use begin::Begin;
 pub use entry::{Call, Entry, Reply};
 pub use fault::{SyntaxFault, Why};
 pub use laws::{
-    at_most_one_module, canonical_texts, legal_histories, tokens_of_texts, worked_histories,
-    worked_tokens,
+    at_most_one_module, canonical_texts, commits_are_legal, legal_histories, reads_decide,
+    runs_put_truly, tokens_of_texts, worked_runs, worked_tokens,
 };
 pub use lexeme::{Lexeme, Mark, Terminal, Word};
 pub use printer::print;
+pub use start::Origin;
+pub use stop::{Answer, Ask, Left, Outcome, Put, Query};
 pub use syntax::{
     BinaryOp, BoundExpr, Builtin, CompareOp, Expr, ExprForm, Function, IndexDecl, Kind, Module,
     Named, Stmt, StmtForm, TableDecl, UnaryOp,

@@ -1,6 +1,6 @@
 //! The text of a module.
 ghost use Rattle.std.specs.Prelude.{◌≡◌, ◌++◌, codes, IfOk, string_bytes};
-ghost use Rattle.fn_tree.specs.FirstForm.{inserts, counts};
+ghost use Rattle.convexd.specs.FirstForm.{inserts, counts};
 ghost use Rattle.convexd.specs.ModuleText.{function_text, program_text};
 ghost use Rattle.convexd.specs.ModuleViews.{function_view, program_view};
 

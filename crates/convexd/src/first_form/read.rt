@@ -1,5 +1,5 @@
 ghost use Rattle.std.specs.Prelude.{◌≡◌, IfOk, IfSome, IfNone};
-ghost use Rattle.fn_tree.specs.FirstForm.{Program};
+ghost use Rattle.convexd.specs.FirstForm.{Program};
 ghost use Rattle.convexd.specs.ModuleText.{IsTextOf};
 ghost use Rattle.convexd.specs.ModuleViews.{program_view};
 

@@ -1,7 +1,7 @@
 use Rattle.std.proofs.Common.{◌≡◌, ℕ, ◌+◌, ◌-◌, [], ◌∷◌, ◌++◌, Bool, true, cond, length, Some, None, Option, refl, sym, ap, ◌∙◌, arith, length-append}
 use Rattle.std.specs.Prelude.{slice_get}
-use Rattle.fn_tree.specs.History.{History, docs_after}
-use Rattle.fn_tree.specs.Run.{run}
+use Rattle.convexd.specs.FirstHistory.{History, docs_after}
+use Rattle.convexd.specs.FirstRun.{run}
 use Rattle.fn_tree.specs.declared.entry.Call.{Call}
 use Rattle.fn_tree.specs.declared.entry.Entry.{Entry}
 use Rattle.convexd.specs.Contents.{after_call, entry_from, found, has_pair, pair_in}

@@ -1,6 +1,6 @@
 use Rattle.std.proofs.Common.{◌≡◌, inl, inr, ℕ, ◌+◌, List, [], length, Option, None, Some, sym, ap, ◌∙◌, arith}
 use Rattle.convexd.specs.Lines.{concat}
-use Rattle.fn_tree.specs.FirstForm.{Program}
+use Rattle.convexd.specs.FirstForm.{Program}
 use Rattle.convexd.specs.ModuleText.{IsTextOf}
 use Rattle.convexd.specs.Play.{Played, play}
 use Rattle.convexd.specs.Replay.{IsGood, IsPlay, Replays, IsDoneOrFault}

@@ -1,7 +1,7 @@
 use Rattle.std.proofs.Common.{◌≡◌, ℕ, ◌-◌, ◌<◌, [], length, Some, Option, sym, ap, ◌∙◌, arith, string_bytes}
 use Rattle.std.specs.Prelude.{slice_get}
 use Rattle.std.specs.Option.{option_map_or}
-use Rattle.fn_tree.specs.History.{History}
+use Rattle.convexd.specs.FirstHistory.{History}
 use Rattle.fn_tree.specs.declared.entry.Reply.{Reply}
 use Rattle.convexd.specs.Contents.{after_call, found, pair_in}
 use Rattle.convexd.specs.ModuleViews.{program_view}

@@ -1,5 +1,5 @@
 use Rattle.std.proofs.Common.{◌≡◌, ◌++◌, drop, map}
-use Rattle.fn_check.specs.Schemas.{declared_index}
+use Rattle.fn_tree.specs.Schemas.{declared_index}
 use Rattle.fn_tree.specs.SyntaxViews.{index_view}
 use Rattle.fn_check.proofs.schema.push_indexes.Given as goal
 

@@ -1,5 +1,5 @@
 use Rattle.std.proofs.Common.{◌≡◌, ◌++◌, drop, map}
-use Rattle.fn_check.specs.Schemas.{text_of}
+use Rattle.fn_tree.specs.Schemas.{text_of}
 use Rattle.fn_check.proofs.schema.push_texts.Given as goal
 
 abbrev pub invariant-loop-name : goal.invariant-loop-name

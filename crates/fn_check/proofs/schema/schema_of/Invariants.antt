@@ -1,5 +1,5 @@
 use Rattle.std.proofs.Common.{◌≡◌, ◌++◌, drop, map}
-use Rattle.fn_check.specs.Schemas.{declared_table}
+use Rattle.fn_tree.specs.Schemas.{declared_table}
 use Rattle.fn_tree.specs.SyntaxViews.{table_view}
 use Rattle.fn_check.proofs.schema.schema_of.Given as goal
 

@@ -1,5 +1,5 @@
-use Rattle.fn_tree.proofs.Legal.{fronts_are_legal, go_on_by_runs}
-use Rattle.fn_tree.proofs.OriginOfIds.{ids_have_pairs}
+use Rattle.fn_tree.proofs.IdsOfHistories.{ids_have_pairs}
+use Rattle.fn_tree.proofs.LegalHistories.{fronts_are_legal, go_on_by_runs}
 use Rattle.fn_tree.proofs.laws.legal_histories.Goals as goal
 
 pub returns-clause-fronts : goal.returns-clause-fronts

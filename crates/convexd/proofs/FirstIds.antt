@@ -8,10 +8,10 @@ use Rattle.cv_values.specs.declared.doc.Doc.{Doc}
 use Rattle.cv_values.specs.declared.ids.DocId.{DocId}
 use Rattle.cv_values.specs.declared.val.Val.TheVariants.{Int}
 use Rattle.fn_tree.specs.Documents.{Docs, same_id, doc_of, without_id, applied, table_docs}
-use Rattle.fn_tree.specs.FirstForm.{Program, Function, Body, inserts, counts, function_of}
-use Rattle.fn_tree.specs.Run.{run, run_body, argument_of, inserted, counted, fails, first_id}
-use Rattle.fn_tree.specs.History.{History, IsLegal, IsRunOn, AreRuns, Pair, HasNoPair, pair_of, docs_after}
-use Rattle.fn_tree.specs.HistoryLaws.{HasPair, IdsHavePairs}
+use Rattle.convexd.specs.FirstForm.{Program, Function, Body, inserts, counts, function_of}
+use Rattle.convexd.specs.FirstRun.{run, run_body, argument_of, inserted, counted, fails, first_id}
+use Rattle.convexd.specs.FirstHistory.{History, IsLegal, IsRunOn, AreRuns, Pair, HasNoPair, pair_of, docs_after}
+use Rattle.convexd.specs.FirstLaws.{HasPair, IdsHavePairs}
 use Rattle.fn_tree.specs.declared.entry.Call.{Call}
 use Rattle.fn_tree.specs.declared.entry.Entry.{Entry}
 use Rattle.fn_tree.specs.declared.entry.Reply.TheVariants.{Value as Gives}

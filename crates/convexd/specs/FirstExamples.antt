@@ -3,9 +3,9 @@ use Rattle.std.specs.Prelude.{◌≡◌, ℕ, pos, List, [], ◌∷◌, codes, S
 use Rattle.cv_values.specs.Value.{Value, int}
 use Rattle.cv_values.specs.declared.val.Val.TheVariants.{Int}
 use Rattle.fn_tree.specs.Documents.{doc_of}
-use Rattle.fn_tree.specs.FirstForm.{Program, inserts, counts}
-use Rattle.fn_tree.specs.History.{History, docs_at}
-use Rattle.fn_tree.specs.Run.{run, Outcome, first_id, new_doc}
+use Rattle.convexd.specs.FirstForm.{Program, inserts, counts}
+use Rattle.convexd.specs.FirstHistory.{History, docs_at}
+use Rattle.convexd.specs.FirstRun.{run, Outcome, first_id, new_doc}
 use Rattle.fn_tree.specs.declared.entry.Call.{Call}
 use Rattle.fn_tree.specs.declared.entry.Entry.{Entry}
 use Rattle.fn_tree.specs.declared.entry.Reply.TheVariants.{Value as Gives, Failed}

@@ -2,9 +2,9 @@
 use Rattle.std.proofs.Common.{◌≡◌, [], ◌∷◌, ◌++◌, refl, sym}
 use Rattle.std.specs.Prelude.{◌≢◌}
 use Rattle.fn_tree.specs.Documents.{Docs, applied}
-use Rattle.fn_tree.specs.FirstForm.{Program}
-use Rattle.fn_tree.specs.History.{History, IsRunOn, AreRuns, Pair, HasNoPair, HasDistinctPairs, pair_of, docs_after}
-use Rattle.fn_tree.specs.HistoryLaws.{FrontsAreLegal, GoOnByRuns}
+use Rattle.convexd.specs.FirstForm.{Program}
+use Rattle.convexd.specs.FirstHistory.{History, IsRunOn, AreRuns, Pair, HasNoPair, HasDistinctPairs, pair_of, docs_after}
+use Rattle.convexd.specs.FirstLaws.{FrontsAreLegal, GoOnByRuns}
 use Rattle.fn_tree.specs.declared.entry.Entry.{Entry}
 
 runs_front : (p : Program) (ds : Docs) (h rest : History) → AreRuns p ds (h ++ rest) → AreRuns p ds h
