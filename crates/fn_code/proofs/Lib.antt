@@ -1,0 +1,15 @@
+mod Calls
+mod CodesMean
+mod Emitted
+mod Expressions
+mod FirstPlaces
+mod Functions
+mod Lists
+mod Places
+mod ReadSteps
+mod Slots
+mod Stacks
+mod Statements
+mod ValueSteps
+mod Weights
+mod WriteSteps
