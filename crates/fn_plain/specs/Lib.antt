@@ -1,0 +1,9 @@
+pub mod Changes
+pub mod Forms
+pub mod Operations
+pub mod Runs
+pub mod Scans
+pub mod Scopes
+pub mod Sizes
+pub mod States
+pub mod Texts
