@@ -72,9 +72,11 @@ pub fn check_fields(f: &Fields) -> Result<(), ValueFault>
     Ok(())
 }
 
+/// Whether an array anywhere in the value has over 8,192 items, or an object over 1,024 names. It
+/// goes over the whole value.
 #[cycle(has_many)]
 #[tactic(auto, using(crate::proofs::Lens::values_len_is))]
-fn has_many(v: &Val) -> bool
+pub fn has_many(v: &Val) -> bool
     ensures { result ≡ has_many (tree v.now) }
 {
     match v {

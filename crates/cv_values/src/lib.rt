@@ -23,13 +23,13 @@ mod tests;
 mod text;
 mod val;
 
-pub use check::{ValueFault, check_fields, check_value};
+pub use check::{ValueFault, check_fields, check_value, has_many};
 pub use doc::{Doc, doc_value};
 pub use ids::{DocId, id_text, read_id};
 pub use laws::{equal_where_same, ids_and_their_texts, order_is_total};
 pub use memory::Memory;
 pub use order::{compare, compare_fields};
 pub use seq::{Copied, Seq, copy_slice};
-pub use sizes::{depth_of, size_of};
+pub use sizes::{depth_of, size_of, size_of_fields};
 pub use text::{Bytes, Text};
 pub use val::{Fields, Val, Vals};

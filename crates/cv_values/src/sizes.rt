@@ -33,8 +33,10 @@ fn size_of_values(items: &[Val]) -> u64
     total
 }
 
+/// The size units of the fields of an object, without the 2 of the object itself, or the greatest
+/// number where they are more. It goes over all of them.
 #[cycle(size_of)]
-pub(crate) fn size_of_fields(fields: &Fields) -> u64
+pub fn size_of_fields(fields: &Fields) -> u64
     ensures { result ≡ min (members_size (members_of fields.now)) (2 ^ 64 - 1) }
 {
     let mut total = 0u64;

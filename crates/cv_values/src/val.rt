@@ -115,6 +115,21 @@ impl Vals {
         Ok(())
     }
 
+    /// The array of the items of a `Vec`, which it takes over. It takes no memory.
+    pub fn from_vec(items: Vec<Val>) -> Vals
+        ensures { result ≡ map tree items.items }
+    {
+        Vals { items }
+    }
+
+    /// The `Vec` of the items. It copies nothing.
+    pub fn into_vec(self) -> Vec<Val>
+        ensures { map tree result.items ≡ self }
+    {
+        let Vals { items } = self;
+        items
+    }
+
     /// The items in order. A recursion over them ends, since they nest less deep than the array.
     pub fn as_slice(&self) -> &[Val]
         ensures value { map tree result.now ≡ self.now }
