@@ -1,5 +1,6 @@
 //! The ends of ranges, and their intervals.
 ghost use Rattle.std.specs.Prelude.{◌≡◌, ◌≢◌, ◌++◌, ◌+◌, ◌-◌, ◌^◌, IfOk, IfErr, IsErrOf, IsOk, OnOk, Ok, Err, min, length};
+ghost use Rattle.cv_keys.specs.Intervals.{in_bytes};
 ghost use Rattle.cv_keys.specs.KeyBytes.{place_key, end_key};
 ghost use Rattle.cv_keys.specs.KeyOrder.{PlaceInRange, EndInRange};
 ghost use Rattle.cv_keys.specs.Ranges.{items_of, given, end_at, lower_end, upper_end, bound_fields, interval_of, range_interval};
@@ -105,8 +106,25 @@ fn fields_of(range: &Range) -> usize
     }
 }
 
-/// The interval of a range: the keys that begin with those of the equalities and go on between the
-/// bounds. A range whose bounds leave nothing between them has an interval too, which holds no key.
+impl Range {
+    /// The interval of the range, of whatever index: the keys that begin with those of the equalities
+    /// and go on between the bounds. A range whose bounds leave nothing between them has an interval
+    /// too, which holds no key. Its ends are some that the key order law speaks of.
+    pub fn interval(&self, alloc: Global) -> Result<Interval, Memory>
+        ensures ok { IfOk result (λ i. i ≡ in_bytes (range_interval self.now)) }
+        ensures in_range { OnOk result (EndInRange (range_interval self.now).lo × EndInRange (range_interval self.now).hi) }
+    {
+        let equal = self.equal.as_slice();
+        Ok(Interval {
+            table: self.table,
+            index: self.index,
+            lo: lower_end(alloc, equal, &self.lower)?,
+            hi: upper_end(alloc, equal, &self.upper)?,
+        })
+    }
+}
+
+/// The interval of a range of an index that is there.
 ///
 /// A range of an index that isn't there is refused as `NoIndex`; one that names more fields than its
 /// index has, as `NoField`; no other is, and both are found before it takes memory. Where it is made,
@@ -123,11 +141,5 @@ pub fn interval_of(alloc: Global, schema: &Schema, range: &Range) -> Result<Inte
     if fields_of(range) > index.fields.as_slice().len() {
         return Err(RangeFault::NoField);
     }
-    let equal = range.equal.as_slice();
-    Ok(Interval {
-        table: range.table,
-        index: range.index,
-        lo: lower_end(alloc, equal, &range.lower)?,
-        hi: upper_end(alloc, equal, &range.upper)?,
-    })
+    Ok(range.interval(alloc)?)
 }
