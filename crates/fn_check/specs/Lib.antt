@@ -5,5 +5,6 @@ pub mod Expressions
 pub mod Faults
 pub mod Functions
 pub mod Known
+pub mod Rooms
 pub mod Statements
 pub mod Tables

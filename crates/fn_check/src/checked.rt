@@ -1,5 +1,6 @@
 ghost use Rattle.std.specs.Prelude.{◌≡◌, None, IfOk};
 ghost use Rattle.fn_check.specs.Functions.{first_fault};
+ghost use Rattle.fn_check.specs.Rooms.{HasRoom};
 ghost use Rattle.fn_tree.specs.Schemas.{schema_of};
 ghost use Rattle.fn_tree.specs.SyntaxViews.{module_view};
 
@@ -30,9 +31,10 @@ impl Checked {
 
     /// The tables with their indexes: of each table `by_id` over `_id` at 0, `by_creation_time` over
     /// `_creationTime` and `_id` at 1, and then the declared ones, over their fields, `_creationTime`
-    /// and `_id`.
+    /// and `_id`. Numbers of tables and indexes are numbers of 16 bits.
     pub fn schema(&self) -> &Schema
-        ensures { result.now ≡ schema_of (module_view self.now.tree).tables }
+        ensures schema { result.now ≡ schema_of (module_view self.now.tree).tables }
+        ensures room { HasRoom result.now }
     {
         &self.schema
     }

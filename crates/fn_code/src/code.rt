@@ -67,8 +67,8 @@ pub enum Instr {
     /// Reads the rows of an index, by its table's number and its own, with bounds by these operators;
     /// downwards or not, up to a limit that is on top or without one.
     Scan {
-        table: u64,
-        index: u64,
+        table: u16,
+        index: u16,
         bounds: Seq<CompareOp>,
         desc: bool,
         limited: bool,
@@ -78,7 +78,7 @@ pub enum Instr {
     Get,
     Now,
     /// Inserts the object on top into the table of a number.
-    Insert(u64),
+    Insert(u16),
     Delete,
     Patch,
     Replace,

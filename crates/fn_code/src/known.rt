@@ -1,5 +1,6 @@
 //! What can be named at a place of a function.
-ghost use Rattle.std.specs.Prelude.{◌≡◌, ◌∷◌, ◌++◌, [], OnOk, length, take, map};
+ghost use Rattle.std.specs.Prelude.{◌≡◌, ◌≤◌, ◌^◌, ◌∷◌, ◌++◌, [], OnOk, length, take, map};
+ghost use Rattle.fn_check.specs.Rooms.{HasRoom};
 ghost use Rattle.fn_tree.specs.Names.{at_name, table_number, index_number};
 ghost use Rattle.fn_tree.specs.Schemas.{text_of};
 ghost use Rattle.fn_tree.specs.SyntaxViews.{function_view};
@@ -24,6 +25,7 @@ pub(crate) struct Known {
     schema: Schema,
     names: Vec<Text>,
     helpers: Vec<(Text, Callee)>,
+    ghost room: { HasRoom schema },
 }
 
 impl Model for Known {
@@ -41,6 +43,7 @@ impl Model for Known {
 impl Known {
     /// Before the first function.
     pub fn new(alloc: Global, schema: Schema) -> Known
+        requires { HasRoom schema }
         ensures { result ≡ record { schema = schema; names = []; helpers = [] } }
     {
         Known {
@@ -84,14 +87,14 @@ impl Known {
     }
 
     /// The number of a table, if it is there.
-    pub fn table(&self, name: &Text) -> Option<u64>
+    pub fn table(&self, name: &Text) -> Option<u16>
         ensures { result ≡ table_number self.now.schema name.now }
     {
         table_number(&self.schema, name)
     }
 
     /// The numbers of a table and of an index of it that has fields for these bounds.
-    pub fn index(&self, table: &Text, index: &Text, ops: &[CompareOp]) -> Option<(u64, u64)>
+    pub fn index(&self, table: &Text, index: &Text, ops: &[CompareOp]) -> Option<(u16, u16)>
         ensures { result ≡ index_for self.now.schema table.now index.now ops.now }
     {
         index_for(&self.schema, table, index, ops)
@@ -150,24 +153,26 @@ impl Known {
 }
 
 #[tactic(auto, using(crate::proofs::FirstPlaces::first_place))]
-fn table_number(schema: &Schema, name: &Text) -> Option<u64>
+fn table_number(schema: &Schema, name: &Text) -> Option<u16>
+    requires { HasRoom schema.now }
     ensures { result ≡ table_number schema.now name.now }
 {
     for (number, table) in schema.tables.as_slice().iter().enumerate() {
         if table.name == *name {
-            return Some(number as u64);
+            return Some(number as u16);
         }
     }
     None
 }
 
 #[tactic(auto, using(crate::proofs::FirstPlaces::first_place))]
-fn index_number(table: &Table, name: &Text) -> Option<u64>
+fn index_number(table: &Table, name: &Text) -> Option<u16>
+    requires { length table.now.indexes ≤ 2 ^ 16 }
     ensures { result ≡ index_number table.now name.now }
 {
     for (number, index) in table.indexes.as_slice().iter().enumerate() {
         if index.name == *name {
-            return Some(number as u64);
+            return Some(number as u16);
         }
     }
     None
@@ -204,7 +209,8 @@ fn has_room(index: &Index, ops: &[CompareOp]) -> bool
     equal <= fields && bound_fields(ops) <= fields - equal
 }
 
-fn index_for(schema: &Schema, table: &Text, index: &Text, ops: &[CompareOp]) -> Option<(u64, u64)>
+fn index_for(schema: &Schema, table: &Text, index: &Text, ops: &[CompareOp]) -> Option<(u16, u16)>
+    requires { HasRoom schema.now }
     ensures { result ≡ index_for schema.now table.now index.now ops.now }
 {
     let table = table_number(schema, table)?;

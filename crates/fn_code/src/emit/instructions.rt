@@ -48,7 +48,7 @@ pub fn emit_call(out: &mut Vec<Instr>, callee: Option<Callee>, arguments: u64) -
     }
 }
 
-pub fn insert_of(table: Option<u64>) -> Instr
+pub fn insert_of(table: Option<u16>) -> Instr
     ensures { result ∷ [] ≡ insert_code table }
 {
     match table {
@@ -59,7 +59,7 @@ pub fn insert_of(table: Option<u64>) -> Instr
 
 /// A read of the index of these numbers.
 pub fn scan_of(
-    numbers: Option<(u64, u64)>,
+    numbers: Option<(u16, u16)>,
     bounds: Seq<CompareOp>,
     desc: bool,
     limited: bool,
