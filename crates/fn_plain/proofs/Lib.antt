@@ -11,7 +11,6 @@ pub mod Loops
 pub mod Placing
 pub mod PutWrites
 pub mod Reading
-pub mod Rooms
 pub mod Sites
 pub mod Starts
 pub mod Steps

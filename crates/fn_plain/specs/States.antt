@@ -6,6 +6,7 @@ use Rattle.cv_keys.specs.Intervals.{in_bytes}
 use Rattle.cv_keys.specs.declared.interval.Interval.{Interval}
 use Rattle.cv_keys.specs.declared.schema.Schema.{Schema}
 use Rattle.cv_keys.specs.declared.schema.Table.{Table}
+use Rattle.fn_check.specs.Rooms.{HasRoom}
 use Rattle.fn_tree.specs.Actions.{Limits, Counts, Action, Scope, Site}
 use Rattle.fn_tree.specs.Course.{Reply, failed, Course}
 use Rattle.fn_tree.specs.Functions.{seen_after}
@@ -63,11 +64,6 @@ abbrev pub error_end : Progress → List ℕ → End
 error_end p why = record { reply = failed why; puts = p.puts.items; reads = p.reads.items; cost = p.counts.cost }
 
 -- ---- steps
-
--- tables and indexes have numbers of 16 bits
-pub record HasRoom (schema : Schema) : Type 0 where
-  pub tables : length schema.tables ≤ 2 ^ 16
-  pub indexes : (n : ℕ) (t : Table) → slice_get schema.tables n ≡ Some t → length t.indexes ≤ 2 ^ 16
 
 -- the counts are within the limits, and all numbers have room; there are at most so many inserts that aren't written yet
 pub record IsWithin (begun : ℕ) (c : Context) (counts : HeldCounts) : Type 0 where

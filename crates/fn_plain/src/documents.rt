@@ -36,7 +36,7 @@ fn with_doc(alloc: Global, docs: &[Doc], id: &DocId, new: &Option<Doc>) -> Resul
 }
 
 /// The documents after some puts, one after another. Each put copies all of them.
-pub(crate) fn with_puts(alloc: Global, base: &[Doc], puts: &[Put]) -> Result<Vec<Doc>, Memory>
+pub fn with_puts(alloc: Global, base: &[Doc], puts: &[Put]) -> Result<Vec<Doc>, Memory>
     ensures { IfOk result (λ ds. ds.items ≡ with_puts puts.now base.now) }
 {
     let mut docs = copy_slice(alloc, base)?;

@@ -4,6 +4,7 @@
 //! slow, and there to be compared with: what runs faster has to give the same.
 #![tactic(auto)]
 
+mod answer;
 mod change;
 mod context;
 mod documents;
@@ -18,5 +19,7 @@ mod scope;
 #[cfg(test)]
 mod tests;
 
+pub use answer::answer_of;
 pub use context::Limits;
-pub use runs::{PlainRun, Start, run, run_within};
+pub use documents::with_puts;
+pub use runs::{PlainRun, Start, run, run_within, writes_of};

@@ -11,9 +11,10 @@ ghost use Rattle.fn_tree.specs.Course.{Ask, scan_rows, get_doc};
 ghost use Rattle.fn_tree.specs.Documents.{doc_of};
 ghost use Rattle.fn_tree.specs.Scan.{rows_size, id_interval, found};
 ghost use Rattle.fn_tree.specs.Reading.{counted, read, id_in, as_id, first_of, doc_at, doc_or_null, get_value, limit_of, equals_of, lower_of, upper_of, has_bound, has_fields, interval_of, scan_value};
+ghost use Rattle.fn_check.specs.Rooms.{HasRoom};
 ghost use Rattle.fn_plain.specs.Scans.{Stands, StandsFor, Answered, left_by, left_in, bounded_in, quota_view};
 ghost use Rattle.fn_plain.specs.Scopes.{bounds_view};
-ghost use Rattle.fn_plain.specs.States.{IsWithin, HasRoom, Gives, Fails, site_at};
+ghost use Rattle.fn_plain.specs.States.{IsWithin, Gives, Fails, site_at};
 
 use crate::context::{Context, Counts, Limits, Progress};
 use crate::documents::{doc_of, with_puts};
@@ -140,7 +141,7 @@ pub(crate) fn read_rows(
 }
 
 /// All that begins with the id's text in `by_id`.
-fn id_interval(alloc: Global, id: &DocId) -> Result<Interval, Memory>
+pub(crate) fn id_interval(alloc: Global, id: &DocId) -> Result<Interval, Memory>
     ensures { IfOk result (λ i. Stands (id_interval id.now) i) }
 {
     let lo = key_of(alloc, &Val::Str(id_text(alloc, id)?))?;
@@ -154,7 +155,7 @@ fn id_interval(alloc: Global, id: &DocId) -> Result<Interval, Memory>
 }
 
 /// The document of an id among rows, alone.
-fn found(alloc: Global, rows: &[Doc], id: &DocId) -> Result<Vec<Doc>, Memory>
+pub(crate) fn found(alloc: Global, rows: &[Doc], id: &DocId) -> Result<Vec<Doc>, Memory>
     ensures { IfOk result (λ ds. ds.items ≡ found (doc_of id.now rows.now)) }
 {
     let mut found = Vec::new(alloc);

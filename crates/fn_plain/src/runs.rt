@@ -12,8 +12,9 @@ ghost use Rattle.fn_tree.specs.Run.{run, run_of, run_within, played, puts_to, un
 ghost use Rattle.fn_tree.specs.Schemas.{schema_of};
 ghost use Rattle.fn_tree.specs.SyntaxTree.{FunctionTree, TableTree};
 ghost use Rattle.fn_tree.specs.SyntaxViews.{function_view, module_view};
+ghost use Rattle.fn_check.specs.Rooms.{HasRoom};
 ghost use Rattle.fn_plain.specs.Runs.{unused, start_view, LeavesRoom, IsRun, function_at, reply_end, EndsAs};
-ghost use Rattle.fn_plain.specs.States.{IsWithin, HasRoom, end_of, counts_of, limits_of, first_site, site_at};
+ghost use Rattle.fn_plain.specs.States.{IsWithin, end_of, counts_of, limits_of, first_site, site_at};
 
 use crate::context::{Context, Counts, Limits, Progress};
 use crate::documents::{doc_of, with_puts};
@@ -142,7 +143,8 @@ fn add_write(
 }
 
 /// One write for each id in order of its first put, with the documents before the run and after it.
-fn writes_of(
+/// It looks through the earlier puts for each put.
+pub fn writes_of(
     alloc: Global,
     before: &[Doc],
     after: &[Doc],

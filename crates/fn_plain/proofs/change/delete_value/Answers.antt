@@ -2,7 +2,7 @@ use Rattle.cv_values.specs.Trees.{tree}
 use Rattle.cv_values.specs.Value.{null}
 use Rattle.std.proofs.Common.{refl}
 use Rattle.fn_tree.specs.Reading.{as_id}
-use Rattle.fn_tree.specs.Writing.{origin_of, doc_there, write}
+use Rattle.fn_tree.specs.Writing.{origin_of, doc_there}
 use Rattle.fn_plain.specs.States.{site_at}
 use Rattle.fn_plain.proofs.Changing.{within_more, done_with, write_gone, delete_there, delete_id}
 use Rattle.fn_plain.proofs.Faults.{handed_on}

@@ -1,9 +1,7 @@
-use Rattle.std.proofs.Common.{rules, ◌≡◌, sym, ap, ◌∙◌}
-use Rattle.std.specs.Prelude.{Option, Some, None, codes}
+use Rattle.std.specs.Prelude.{Option, codes}
 use Rattle.cv_values.specs.declared.doc.Doc.{Doc}
-use Rattle.fn_tree.specs.Actions.{Action, give, fail, or_fail}
+use Rattle.fn_tree.specs.Actions.{Action, or_fail}
 use Rattle.fn_tree.specs.Reading.{doc_at}
-use Rattle.fn_tree.specs.Writing.{doc_there}
 use Rattle.fn_plain.specs.States.{site_at}
 use Rattle.fn_plain.proofs.Faults.{handed_on}
 use Rattle.fn_plain.proofs.Steps.{gave_pure, fail_fails, first_fails, then_gives, then_fails}

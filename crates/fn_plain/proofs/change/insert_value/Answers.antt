@@ -1,15 +1,14 @@
-use Rattle.std.proofs.Common.{◌≡◌, ◌∙◌, ◌+◌, sym, ap, refl, subst}
-use Rattle.std.specs.Prelude.{Some, None, codes}
+use Rattle.std.proofs.Common.{◌∙◌, ◌+◌, sym, ap, refl, subst}
+use Rattle.std.specs.Prelude.{None, codes}
 use Rattle.cv_values.specs.Ids.{id_text}
 use Rattle.cv_values.specs.Trees.{tree}
 use Rattle.cv_values.specs.Value.{string}
 use Rattle.cv_values.specs.declared.ids.DocId.{DocId}
 use Rattle.cv_keys.specs.declared.schema.Schema.{Schema}
-use Rattle.fn_tree.specs.Actions.{Action, or_type_error}
+use Rattle.fn_tree.specs.Actions.{or_type_error}
 use Rattle.fn_tree.specs.Names.{table_number}
 use Rattle.fn_tree.specs.Writing.{origin_of, store, insert_value}
 use Rattle.fn_plain.specs.States.{Gives, Fails, site_at}
-use Rattle.fn_plain.specs.declared.context.Context.{Context}
 use Rattle.fn_plain.specs.declared.context.Progress.{Progress}
 use Rattle.fn_plain.proofs.Changing.{done_with, store_new, insert_fields, insert_in, insert_by}
 use Rattle.fn_plain.proofs.Faults.{handed_on}

@@ -4,7 +4,7 @@ use Rattle.std.proofs.lemmas.Result.{IfOk-weaker, IfErr-weaker}
 use Rattle.cv_values.specs.Sizes.{checked}
 use Rattle.cv_values.specs.Value.{object, members_of}
 use Rattle.cv_values.specs.declared.doc.Doc.{Doc}
-use Rattle.fn_tree.specs.Actions.{Action, ◌>>◌, give, Site}
+use Rattle.fn_tree.specs.Actions.{Action, ◌>>◌, Site}
 use Rattle.fn_tree.specs.Scan.{doc_size}
 use Rattle.fn_tree.specs.Writing.{write, store, unless_faulty}
 use Rattle.fn_tree.specs.declared.stop.Put.{Put}

@@ -1,12 +1,11 @@
-use Rattle.std.proofs.Common.{◌≡◌, ◌<◌, ◌≤◌, ◌+◌, ℕ, Bool, true, false, ap, ◌∙◌, refl, sym, arith}
+use Rattle.std.proofs.Common.{◌≡◌, ◌+◌, ℕ, Bool, true, false, ap, ◌∙◌, arith}
 use Rattle.std.specs.Prelude.{nat_le, codes}
 use Rattle.std.proofs.lemmas.Bool.Decides.{nat_tests}
-use Rattle.fn_tree.specs.Actions.{Counts, Limits, Site, fail, spend}
+use Rattle.fn_tree.specs.Actions.{Counts, Limits, fail, spend}
 use Rattle.fn_tree.specs.Course.{Course}
-use Rattle.fn_plain.specs.States.{IsWithin, Gives, EndsBy, Fails, end_of, error_end, counts_of, limits_of, site_at}
+use Rattle.fn_plain.specs.States.{Fails, end_of, counts_of, site_at}
 use Rattle.fn_plain.specs.declared.context.Context.{Context}
 use Rattle.fn_plain.specs.declared.context.Progress.{Progress}
-use Rattle.fn_plain.specs.declared.context.Counts.{Counts as HeldCounts}
 use Rattle.fn_plain.specs.declared.fault.Fault.{Fault}
 use Rattle.fn_plain.specs.Texts.{Says}
 use Rattle.fn_plain.proofs.Steps.{Reaches, fail_fails, reached_fails}

@@ -1,5 +1,4 @@
-use Rattle.std.proofs.Common.{◌≡◌, ◌∙◌, List, map, refl, sym, ap, subst, arith}
-use Rattle.std.specs.Prelude.{Option}
+use Rattle.std.proofs.Common.{◌∙◌, List, map, refl, sym, ap, subst, arith}
 use Rattle.std.specs.Option.{option_map}
 use Rattle.fn_tree.proofs.FormViews.{form-Patch, form-Replace, form-Item, form-Binary, form-Object, form-Scan}
 use Rattle.fn_tree.specs.SyntaxTree.{Form}

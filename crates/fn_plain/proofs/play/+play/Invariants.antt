@@ -1,8 +1,7 @@
-use Rattle.std.proofs.Common.{◌≡◌, ℕ, ◌+◌, ◌-◌, List, ◌++◌, map, drop}
+use Rattle.std.proofs.Common.{◌+◌, ◌-◌, ◌++◌, map, drop}
 use Rattle.std.specs.Option.{option_map}
 use Rattle.cv_values.specs.Trees.{tree}
-use Rattle.cv_values.specs.Value.{Value}
-use Rattle.fn_tree.specs.Actions.{Action, ◌>>=◌, give}
+use Rattle.fn_tree.specs.Actions.{◌>>=◌, give}
 use Rattle.fn_tree.specs.Meaning.{exprs_mean, entries_mean, bounds_mean, turns, stmts_mean}
 use Rattle.fn_tree.specs.SyntaxViews.{expr_view, bound_view, exprs_of, entries_of, bounds_of, limit_of, stmt_view, stmts_of}
 use Rattle.fn_plain.specs.Scopes.{pairs_view, bounds_view, turn_of}
