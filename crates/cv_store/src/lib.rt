@@ -1,0 +1,23 @@
+//! What a store of a program's log means, and what a job over one does.
+//!
+//! A store stands for a history: the entries that it has seen. One call of a store is one atomic step:
+//! what it has seen goes on, never back, and its answer is the one at the end of what it has then seen
+//! ([`Store`]). A job runs one function over a store, one atomic step at a time ([`Job`]).
+#![tactic(auto)]
+
+mod conflict;
+mod job;
+mod look;
+mod proposal;
+mod runs;
+mod store;
+mod tail;
+
+pub use conflict::Conflict;
+pub use fn_tree::{Call, Entry, Query, Reply};
+pub use job::{Job, JobWent};
+pub use look::Look;
+pub use proposal::{Begun, Ended, Proposal, ReadReq};
+pub use runs::Runs;
+pub use store::Store;
+pub use tail::Tail;
