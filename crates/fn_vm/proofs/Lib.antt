@@ -1,0 +1,13 @@
+pub mod Arguments
+pub mod Bounds
+pub mod Calls
+pub mod Following
+pub mod Lists
+pub mod Machines
+pub mod OperandsTaken
+pub mod Reading
+pub mod Replies
+pub mod RowSizes
+pub mod Scanning
+pub mod Views
+pub mod WriteSteps
