@@ -6,3 +6,4 @@ pub mod Marks
 pub mod Reads
 pub mod Stores
 pub mod Tails
+pub mod TouchLaws

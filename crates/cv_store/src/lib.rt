@@ -7,6 +7,7 @@
 
 mod conflict;
 mod job;
+mod laws;
 mod look;
 mod proposal;
 mod runs;
@@ -16,6 +17,7 @@ mod tail;
 pub use conflict::Conflict;
 pub use fn_tree::{Call, Entry, Query, Reply};
 pub use job::{Job, JobWent};
+pub use laws::touches_go_by_marks;
 pub use look::Look;
 pub use proposal::{Begun, Ended, Proposal, ReadReq};
 pub use runs::Runs;

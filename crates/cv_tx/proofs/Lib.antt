@@ -1,0 +1,11 @@
+pub mod Turned
+pub mod Fronts
+pub mod Cuts
+pub mod Planned
+pub mod Laid
+pub mod Consuming
+pub mod Newest
+pub mod Placed
+pub mod PlacesApart
+pub mod Swapped
+pub mod PendingLaws
