@@ -1,0 +1,16 @@
+//! Laws of what is loaded, each a function with nothing to do.
+ghost use Rattle.fn_load.specs.Loading.{AtMostOneAccepted, AcceptedHaveNoCause, AtMostOneCause};
+
+use fn_syntax::one_fault;
+use fn_tree::at_most_one_module;
+
+/// Bytes have at most one answer but want of memory: one module that is accepted, or one fault. So each
+/// answer of `load` comes exactly where its cause stands.
+pub fn one_answer()
+    ensures accepted { AtMostOneAccepted }
+    ensures apart { AcceptedHaveNoCause }
+    ensures causes { AtMostOneCause }
+{
+    at_most_one_module();
+    one_fault();
+}
