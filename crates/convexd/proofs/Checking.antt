@@ -1,24 +1,23 @@
 -- At most one answer of a text that is checked.
-use Rattle.std.proofs.Common.{◌≡◌, ◌<◌, ◌≤◌, ℕ, List, length, Option, None, Some, sym, ap, refl, ◌∙◌, arith}
+use Rattle.std.proofs.Common.{◌≡◌, ◌<◌, ℕ, List, length, Option, None, Some, sym, ap, refl, ◌∙◌, arith}
 use Rattle.cv_outside.specs.declared.whole.TheConstants.{INPUT_LIMIT}
 use Rattle.fn_check.specs.Functions.{first_fault}
 use Rattle.fn_check.specs.declared.fault.CheckFault.{CheckFault}
 use Rattle.fn_tree.specs.Canonical.{canonical_text}
 use Rattle.fn_tree.specs.ModuleLaws.{AtMostOneModule, ModulesHaveNoFault, AtMostOneFault}
 use Rattle.convexd.specs.Check.{IsCanonical, IsRefused, Checks}
-use Rattle.convexd.specs.Replay.{IsDoneOrFault, TellsOfInput}
+use Rattle.convexd.specs.Exits.{IsDoneOrFault, TellsOfInput}
 use Rattle.convexd.specs.declared.exit.Exit.{Exit}
 use Rattle.convexd.specs.declared.exit.Exit.TheVariants.{Done, Usage, Module, Script, Read, Write, Memory, TooLarge}
 use Rattle.convexd.specs.declared.exit.ModuleFault.{ModuleFault}
-use Rattle.convexd.specs.declared.exit.ModuleFault.TheVariants.{NotYet, Syntax, Check}
+use Rattle.convexd.specs.declared.exit.ModuleFault.TheVariants.{Syntax, Check}
 
 pub same_text : AtMostOneModule → (input text other : List ℕ) → IsCanonical input text → IsCanonical input other → text ≡ other
 same_text one input text other v w =
     let tree = one input v.tree w.tree v.reads w.reads in
     v.same ∙ ap canonical_text tree ∙ sym w.same
 
-not_refused : AtMostOneModule → ModulesHaveNoFault → (input text : List ℕ) (fault : ModuleFault) → IsCanonical input text → IsRefused input fault → ⊥
-not_refused one none input text NotYet v w = w
+pub not_refused : AtMostOneModule → ModulesHaveNoFault → (input text : List ℕ) (fault : ModuleFault) → IsCanonical input text → IsRefused input fault → ⊥
 not_refused one none input text (Syntax fault) v w = none input v.tree fault v.reads w
 not_refused one none input text (Check fault) v w =
     let e : None ≡ Some fault = sym v.meets ∙ ap first_fault (one input v.tree w.tree v.reads w.reads) ∙ w.first in cc
@@ -26,9 +25,7 @@ not_refused one none input text (Check fault) v w =
 same_some : {f g : CheckFault} → Some f ≡ Some g → f ≡ g
 same_some e = cc
 
-same_refusal : AtMostOneModule → ModulesHaveNoFault → AtMostOneFault → (input : List ℕ) (f g : ModuleFault) → IsRefused input f → IsRefused input g → f ≡ g
-same_refusal one none fault input NotYet g v w = absurd v
-same_refusal one none fault input f NotYet v w = absurd w
+pub same_refusal : AtMostOneModule → ModulesHaveNoFault → AtMostOneFault → (input : List ℕ) (f g : ModuleFault) → IsRefused input f → IsRefused input g → f ≡ g
 same_refusal one none fault input (Syntax f) (Syntax g) v w = ap Syntax (fault input f g v w)
 same_refusal one none fault input (Syntax f) (Check g) v w = absurd (none input w.tree f w.reads v)
 same_refusal one none fault input (Check f) (Syntax g) v w = absurd (none input v.tree g v.reads w)

@@ -3,18 +3,17 @@ use Rattle.std.proofs.Common.{◌≡◌, ℕ, List, [], ◌∷◌, false, refl, 
 use Rattle.serde_json.specs.Written.{has_float, items_have_float}
 use Rattle.cv_json.proofs.NoFloats.{no_float}
 use Rattle.cv_values.specs.Docs.{doc_value}
-use Rattle.cv_values.specs.Trees.{tree}
 use Rattle.cv_values.specs.Value.{object, members_of}
 use Rattle.cv_values.specs.declared.doc.Doc.{Doc}
-use Rattle.fn_tree.specs.declared.entry.Entry.{Entry}
-use Rattle.fn_tree.specs.declared.entry.Reply.{Reply}
-use Rattle.fn_tree.specs.declared.entry.Reply.TheVariants.{Value, Failed}
+use Rattle.fn_tree.specs.Course.{Reply, gives, failed}
+use Rattle.fn_tree.specs.History.{Entry}
 use Rattle.cv_keys.specs.declared.write.Write.{Write}
-use Rattle.convexd.specs.EntryJson.{reply_tree, doc_tree, write_trees, entry_members, entry_tree}
+use Rattle.convexd.specs.EntryJson.{doc_tree, write_trees}
+use Rattle.convexd.specs.EntryLines.{reply_tree, entry_members, entry_tree}
 
 reply_no_float : (r : Reply) → has_float (reply_tree r) ≡ false
-reply_no_float (Value v) = rw (no_float (tree v))
-reply_no_float (Failed why) = refl
+reply_no_float (gives v) = rw (no_float v)
+reply_no_float (failed why) = refl
 
 doc_no_float : (d : Option Doc) → has_float (doc_tree d) ≡ false
 doc_no_float None = refl

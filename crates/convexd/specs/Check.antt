@@ -1,5 +1,5 @@
 -- What the command `check` answers and writes.
-use Rattle.std.specs.Prelude.{◌≡◌, ◌<◌, ◌≤◌, ◌⊎◌, ℕ, List, [], ◌∷◌, Option, Some, None, length, codes}
+use Rattle.std.specs.Prelude.{◌≡◌, ◌<◌, ◌≤◌, ℕ, List, [], ◌∷◌, Option, Some, None, length, codes}
 use Rattle.std.specs.Io.KnownBytes.{Appends}
 use Rattle.cv_outside.specs.Causes.{AppendsPart}
 use Rattle.cv_outside.specs.declared.whole.TheConstants.{INPUT_LIMIT}
@@ -11,7 +11,7 @@ use Rattle.fn_tree.specs.SyntaxTree.{ModuleTree}
 use Rattle.convexd.specs.declared.exit.Exit.{Exit}
 use Rattle.convexd.specs.declared.exit.Exit.TheVariants.{Done, Usage, Module, Script, Read, Write, Memory, TooLarge}
 use Rattle.convexd.specs.declared.exit.ModuleFault.{ModuleFault}
-use Rattle.convexd.specs.declared.exit.ModuleFault.TheVariants.{NotYet, Syntax, Check}
+use Rattle.convexd.specs.declared.exit.ModuleFault.TheVariants.{Syntax, Check}
 
 -- the words of the command
 abbrev pub check_words : List (List ℕ)
@@ -32,7 +32,6 @@ pub record IsUnmet (input : List ℕ) (fault : CheckFault) : Type 0 where
 
 -- why no module is accepted
 abbrev pub IsRefused : List ℕ → ModuleFault → Type 0
-IsRefused input NotYet = ⊥
 IsRefused input (Syntax fault) = IsFaultOf input fault
 IsRefused input (Check fault) = IsUnmet input fault
 

@@ -1,4 +1,4 @@
--- The JSON of a log's entry.
+-- The JSON of calls and of what they wrote.
 use Rattle.std.specs.Prelude.{ℕ, List, map, Option, Some, None, codes}
 use Rattle.std.specs.Int.{w128, to_be_bytes}
 use Rattle.uuid.specs.Text.{hyphenated_text, lower}
@@ -8,18 +8,10 @@ use Rattle.serde_json.specs.Data.{Data, Items, Members, unsigned}
 use Rattle.cv_json.specs.Json.{json_of}
 use Rattle.cv_values.specs.Docs.{doc_value}
 use Rattle.cv_values.specs.Ids.{id_text}
-use Rattle.cv_values.specs.Trees.{tree}
 use Rattle.cv_values.specs.Value.{int, object, members_of}
 use Rattle.cv_values.specs.declared.doc.Doc.{Doc}
 use Rattle.fn_tree.specs.declared.entry.Call.{Call}
-use Rattle.fn_tree.specs.declared.entry.Entry.{Entry}
-use Rattle.fn_tree.specs.declared.entry.Reply.{Reply}
-use Rattle.fn_tree.specs.declared.entry.Reply.TheVariants.{Value, Failed}
 use Rattle.cv_keys.specs.declared.write.Write.{Write}
-
-abbrev pub reply_tree : Reply → Data
-reply_tree (Value v) = json.object (json.member (codes "value") (json_of (tree v)) json.no_members)
-reply_tree (Failed why) = json.object (json.member (codes "error") (json.string why) json.no_members)
 
 abbrev pub doc_tree : Option Doc → Data
 doc_tree None = json.null
@@ -49,18 +41,3 @@ call_members call =
     json.member (codes "request") (number_tree call.request) (
     json.member (codes "session") (session_tree call.session) (
     json.member (codes "udf") (json.string call.udf) json.no_members))))
-
--- the members of an entry, in byte order of their names
-unfoldable pub entry_members : ℕ → Entry → Members
-entry_members ts e =
-    json.member (codes "args") (args_tree e.call) (
-    json.member (codes "now") (json_of (int e.call.now)) (
-    json.member (codes "reply") (reply_tree e.reply) (
-    json.member (codes "request") (number_tree e.call.request) (
-    json.member (codes "session") (session_tree e.call.session) (
-    json.member (codes "ts") (number_tree ts) (
-    json.member (codes "udf") (json.string e.call.udf) (
-    json.member (codes "writes") (json.array (write_trees e.writes)) json.no_members)))))))
-
-abbrev pub entry_tree : ℕ → Entry → Data
-entry_tree ts e = json.object (entry_members ts e)

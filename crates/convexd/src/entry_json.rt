@@ -5,8 +5,9 @@ ghost use Rattle.serde_json.specs.View.{view, items_view, members_view};
 ghost use Rattle.serde_json.specs.Data.{no_members, member, string};
 ghost use Rattle.serde_json.specs.Data as json;
 ghost use Rattle.cv_json.specs.Json.{json_of};
-ghost use Rattle.convexd.specs.EntryJson.{reply_tree, doc_tree, write_tree, write_trees, number_tree, session_tree, call_members, entry_members, entry_tree};
-ghost use Rattle.convexd.specs.Play.{entry_line};
+ghost use Rattle.fn_tree.specs.EntryViews.{entry_view, reply_view};
+ghost use Rattle.convexd.specs.EntryJson.{doc_tree, write_tree, write_trees, number_tree, session_tree, call_members};
+ghost use Rattle.convexd.specs.EntryLines.{reply_tree, entry_members, entry_tree, entry_line};
 
 use cv_json::to_json;
 use cv_keys::Write;
@@ -31,7 +32,7 @@ fn named(alloc: Global, name: &str, value: Value) -> Result<Value, Memory>
 }
 
 fn reply_json(alloc: Global, reply: &Reply) -> Result<Value, Memory>
-    ensures { IfOk result (λ j. view j ≡ reply_tree reply.now) }
+    ensures { IfOk result (λ j. view j ≡ reply_tree (reply_view reply.now)) }
 {
     match reply {
         Reply::Value(value) => named(alloc, "value", to_json(alloc, value)?),
@@ -109,7 +110,7 @@ fn call_json(alloc: Global, call: &Call) -> Result<Map<String, Value>, Memory>
 // The members that tell an entry with this timestamp: the call, its reply, and for each write the id
 // and the document after it, or null.
 fn entry_parts(alloc: Global, ts: u64, entry: &Entry) -> Result<Map<String, Value>, Memory>
-    ensures { IfOk result (λ m. members_view m.entries ≡ entry_members ts entry.now) }
+    ensures { IfOk result (λ m. members_view m.entries ≡ entry_members ts (entry_view entry.now)) }
 {
     let mut members = call_json(alloc, &entry.call)?;
     serde_json::put(
@@ -125,17 +126,17 @@ fn entry_parts(alloc: Global, ts: u64, entry: &Entry) -> Result<Map<String, Valu
 }
 
 fn entry_json(alloc: Global, ts: u64, entry: &Entry) -> Result<Value, Memory>
-    ensures { IfOk result (λ j. view j ≡ entry_tree ts entry.now) }
+    ensures { IfOk result (λ j. view j ≡ entry_tree ts (entry_view entry.now)) }
 {
     Ok(Value::Object(entry_parts(alloc, ts, entry)?))
 }
 
-/// The line that tells an entry with this timestamp. It copies all that it tells.
+/// The line that tells an entry with this timestamp, without its line feed. It copies all that it tells.
 #[tactic(auto, using(crate::proofs::EntryTexts::entry_no_float))]
 pub(crate) fn entry_text(alloc: Global, ts: u64, entry: &Entry) -> Result<String, Memory>
-    ensures { IfOk result (λ s. string_bytes s ≡ entry_line ts entry.now) }
+    ensures { IfOk result (λ s. string_bytes s ≡ entry_line ts (entry_view entry.now)) }
 {
     let json = entry_json(alloc, ts, entry)?;
     let json = json.to_string(alloc)?;
-    Ok(format!(in alloc; "entry {json}\n")?)
+    Ok(format!(in alloc; "entry {json}")?)
 }

@@ -4,8 +4,6 @@ use fn_syntax::SyntaxFault;
 /// Why a module text is refused.
 #[derive(Clone, Copy, Debug, PartialEq, Eq)]
 pub enum ModuleFault {
-    /// It isn't of the first form. `replay` alone answers it.
-    NotYet,
     /// It is no text of a module.
     Syntax(SyntaxFault),
     /// It doesn't meet a check.

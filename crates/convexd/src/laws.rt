@@ -1,41 +1,43 @@
 //! Laws of the definitions, each a function with nothing to do.
-ghost use Rattle.std.specs.Prelude.{List, ℕ, Option, [], ◌≡◌};
-ghost use Rattle.convexd.specs.FirstExamples.{IsWorkedExample};
-ghost use Rattle.convexd.specs.FirstForm.{Program};
-ghost use Rattle.convexd.specs.ModuleText.{IsTextOf};
-ghost use Rattle.convexd.specs.Play.{IsOneLog, play};
-ghost use Rattle.convexd.specs.Replay.{IsGood, Replays, IsDoneOrFault, TellsOfInput};
+ghost use Rattle.std.specs.Prelude.{List, ℕ, Option, ◌≡◌};
+ghost use Rattle.fn_tree.specs.SyntaxTree.{ModuleTree};
+ghost use Rattle.convexd.specs.Answering.{Answers, IsGoodInput};
 ghost use Rattle.convexd.specs.Check.{IsCanonical, Checks};
+ghost use Rattle.convexd.specs.Events.{Event};
+ghost use Rattle.convexd.specs.Exits.{IsDoneOrFault, TellsOfInput};
+ghost use Rattle.convexd.specs.PlayExamples.{IsWorkedPlay};
+ghost use Rattle.convexd.specs.Plays.{IsOneLog};
 ghost use Rattle.convexd.specs.declared.exit.Exit.{Exit};
 
 use fn_syntax::one_fault;
 use fn_tree::at_most_one_module;
 
-/// A text is that of at most one program.
-pub fn at_most_one_program()
-    ensures { (p q : Program) (text : List ℕ) → IsTextOf p text → IsTextOf q text → p ≡ q }
-{}
-
-/// The definitions of the first form, computed on two inserts and a count.
-pub fn worked_histories()
-    ensures { IsWorkedExample }
-{}
-
-/// What a script plays is one log: a legal history, told reply by reply.
+/// What events play is one log: a legal history, told reply by reply.
 pub fn scripts_make_one_log()
-    ensures { (p : Program) (first : ℕ) (lines : List (List ℕ)) → IsOneLog p lines (play p [] first lines) }
+    ensures { (m : ModuleTree) (events : List (ℕ × Event)) → IsOneLog m events }
+{}
+
+/// The definitions of a script, computed on calls of a mutation and of a query.
+pub fn worked_plays()
+    ensures { IsWorkedPlay }
 {}
 
 /// A good input is answered by Done, or by a fault that has a cause of its own.
 pub fn good_inputs_end()
-    ensures { (input : List ℕ) → IsGood input → (old new : Option (List ℕ)) (exit : Exit) → Replays input old new exit → IsDoneOrFault exit }
-{}
+    ensures { (input : List ℕ) → IsGoodInput input → (old new : Option (List ℕ)) (exit : Exit) → Answers input old new exit → IsDoneOrFault exit }
+{
+    at_most_one_module();
+    one_fault();
+}
 
 /// An input has at most one of the answers Done, Module, Script and TooLarge, so each comes exactly where
 /// its cause stands, but for faults and want of memory.
 pub fn answers_exclude_each_other()
-    ensures { (input : List ℕ) (old new again then : Option (List ℕ)) (a b : Exit) → TellsOfInput a → TellsOfInput b → Replays input old new a → Replays input again then b → a ≡ b }
-{}
+    ensures { (input : List ℕ) (old new again then : Option (List ℕ)) (a b : Exit) → TellsOfInput a → TellsOfInput b → Answers input old new a → Answers input again then b → a ≡ b }
+{
+    at_most_one_module();
+    one_fault();
+}
 
 /// Of a text that is checked, the same: Done, Module and TooLarge exclude each other, and the fault is one.
 pub fn checks_exclude_each_other()

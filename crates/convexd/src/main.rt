@@ -3,36 +3,44 @@
 
 ghost use Rattle.std.specs.Prelude.{◌≡◌};
 ghost use Rattle.std.specs.Process.{exit_status};
-ghost use Rattle.convexd.specs.Replay.{status_of};
+ghost use Rattle.convexd.specs.Exits.{status_of};
 
 mod check;
 #[cfg(test)]
 mod check_tests;
-mod contents;
 mod entry_json;
+#[cfg(test)]
+mod error_tests;
 mod exit;
-mod first_form;
 mod laws;
 mod lines;
-mod play;
+mod machine_run;
+#[cfg(test)]
+mod machine_tests;
+mod play_events;
 mod replay;
-mod script_line;
+mod script;
+mod script_reader;
+#[cfg(test)]
+mod script_tests;
+mod stage;
 #[cfg(test)]
 mod tests;
 
 pub use check::check_main;
-pub use contents::{Contents, record_call};
 use cv_outside::{StdSink, StdSource};
 pub use exit::{Exit, ModuleFault};
-pub use first_form::{FunctionBody, Module, ModuleFunction, find_function, read_module};
 pub use laws::{
-    accepted_modules_end, answers_exclude_each_other, at_most_one_program,
-    checks_exclude_each_other, good_inputs_end, scripts_make_one_log, worked_histories,
+    accepted_modules_end, answers_exclude_each_other, checks_exclude_each_other, good_inputs_end,
+    scripts_make_one_log, worked_plays,
 };
 pub use lines::{Parts, cut, line_text, split_line};
-pub use play::{PlayFault, play_script};
+pub use machine_run::run_call;
+pub use play_events::{PlayFault, play_script};
 pub use replay::replay_main;
-pub use script_line::{ScriptLine, read_line};
+pub use script::{Event, Script};
+pub use script_reader::read_script;
+pub use stage::{Stage, record_call};
 use std::process::ExitCode;
 use std::{env, io};
 
@@ -42,7 +50,6 @@ fn report(rt: &impl Eprint, exit: Exit) -> ExitCode
     let (status, told) = match exit {
         Exit::Done => (0, Ok(())),
         Exit::Usage => (1, eprintln!(rt; "usage: convexd replay | check")),
-        Exit::Module(ModuleFault::NotYet) => (2, eprintln!(rt; "module 0 NotYet")),
         Exit::Module(ModuleFault::Syntax(fault)) => {
             (2, eprintln!(rt; "module {} {:?}", fault.at, fault.why))
         }

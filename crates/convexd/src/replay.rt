@@ -3,13 +3,14 @@ ghost use Rattle.std.specs.Prelude.{◌≡◌, ◌≢◌, ◌⊎◌, ◌↔◌, 
 ghost use Rattle.std.specs.Io.KnownBytes.{Appends, IsAtEnd};
 ghost use Rattle.cv_outside.specs.Causes.{Rose};
 ghost use Rattle.cv_outside.specs.declared.whole.TheConstants.{INPUT_LIMIT};
-ghost use Rattle.convexd.specs.Replay.{replay_words, Replays};
+ghost use Rattle.convexd.specs.Answering.{replay_words, refusal_of, Answers};
 
 use crate::exit::{Exit, ModuleFault};
-use crate::first_form::read_module;
 use crate::lines::cut;
-use crate::play::{PlayFault, play_script};
+use crate::play_events::{PlayFault, play_script};
+use crate::script_reader::read_script;
 use cv_outside::{ReadFault, Sink, Source, read_whole};
+use fn_load::{LoadFault, load};
 use std::alloc::Global;
 
 fn is_replay(word: &String) -> bool
@@ -27,9 +28,23 @@ fn says_replay(words: &[String]) -> bool
     }
 }
 
+// The answer to a module that isn't loaded.
+fn not_loaded(fault: LoadFault) -> Exit
+    ensures same { result ≡ refusal_of fault }
+    ensures usage { result ≡ Exit.Usage → ⊥ }
+    ensures read { result ≡ Exit.Read → ⊥ }
+    ensures write { result ≡ Exit.Write → ⊥ }
+{
+    match fault {
+        LoadFault::Syntax(fault) => Exit::Module(ModuleFault::Syntax(fault)),
+        LoadFault::Check(fault) => Exit::Module(ModuleFault::Check(fault)),
+        LoadFault::Memory => Exit::Memory,
+    }
+}
+
 fn replay_input<O: Sink>(alloc: Global, input: &[u8], out: &mut O) -> Exit
     requires { length input.now ≤ INPUT_LIMIT }
-    ensures answer { Replays input.now (O.held out.old) (O.held out.new) result }
+    ensures answer { Answers input.now (O.held out.old) (O.held out.new) result }
     ensures usage { result ≡ Exit.Usage → ⊥ }
     ensures read { result ≡ Exit.Read → ⊥ }
     ensures write { result ≡ Exit.Write → Rose (O.faults out.old) (O.faults out.new) }
@@ -40,12 +55,14 @@ fn replay_input<O: Sink>(alloc: Global, input: &[u8], out: &mut O) -> Exit
         Ok(parts) => parts,
         Err(line) => return Exit::Script { line },
     };
-    let program = match read_module(alloc, parts.module) {
-        Ok(Some(program)) => program,
-        Ok(None) => return Exit::Module(ModuleFault::NotYet),
-        Err(_) => return Exit::Memory,
+    let program = match load(alloc, parts.module) {
+        Ok(program) => program,
+        Err(fault) => return not_loaded(fault),
     };
-    match play_script(alloc, &program, parts.script, parts.line, out) {
+    let Ok(script) = read_script(alloc, parts.script, parts.line) else {
+        return Exit::Memory;
+    };
+    match play_script(alloc, &program, &script, out) {
         Ok(()) => Exit::Done,
         Err(PlayFault::Script { line }) => Exit::Script { line },
         Err(PlayFault::Write) => Exit::Write,
@@ -53,9 +70,9 @@ fn replay_input<O: Sink>(alloc: Global, input: &[u8], out: &mut O) -> Exit
     }
 }
 
-/// The command `replay`: reads a module's text, the line `%%` and a script, plays the script and
-/// writes each reply and at last the length of the log. The answers come in this order: the words, the
-/// whole input, the line `%%`, the module, then the script line by line.
+/// The command `replay`: reads a module's text, the line `%%` and a script, plays the script and writes
+/// what it tells, and at last the length of the log. The answers come in this order: the words, the whole
+/// input, the line `%%`, the module, then the script line by line.
 pub fn replay_main<I: Source, O: Sink>(
     alloc: Global,
     words: &Vec<String>,
@@ -63,7 +80,7 @@ pub fn replay_main<I: Source, O: Sink>(
     out: &mut O,
 ) -> Exit
     ensures usage { (result ≡ Exit.Usage) ↔ ¬ (map string_bytes words.now.items ≡ replay_words) }
-    ensures answer { IfSome (I.left input.old) (λ bytes. Replays bytes (O.held out.old) (O.held out.new) result) }
+    ensures answer { IfSome (I.left input.old) (λ bytes. Answers bytes (O.held out.old) (O.held out.new) result) }
     ensures end { result ≡ Exit.Done → IsAtEnd (I.left input.new) }
     ensures read { result ≡ Exit.Read → Rose (I.faults input.old) (I.faults input.new) }
     ensures write { result ≡ Exit.Write → Rose (O.faults out.old) (O.faults out.new) }

@@ -1,6 +1,8 @@
 use crate::{Exit, ModuleFault, replay_main};
 use cv_outside::{INPUT_LIMIT, MemSink, MemSource};
 use cv_values::{Fields, Text, Val};
+use fn_check::{CheckFault, CheckKind};
+use fn_syntax::{SyntaxFault, Why};
 use lru::LruCache;
 use std::alloc::Global;
 use std::num::NonZeroUsize;
@@ -17,7 +19,7 @@ const REPLIES: &str =
     "reply 1 ok {\"$integer\":\"AQAAAAAAAAA=\"}\nreply 2 ok {\"$integer\":\"AgAAAAAAAAA=\"}\nreply 3 ok {\"$integer\":\"AgAAAAAAAAA=\"}\nts 3\n";
 
 // Plays an input over a source and a sink whose calls of these numbers fail.
-fn replayed(
+pub(crate) fn replayed(
     alloc: Global,
     words: &[&str],
     input: Vec<u8>,
@@ -43,7 +45,6 @@ fn first_run(alloc: Global) -> Result<Vec<u8>, Fail> {
 #[test]
 fn whole_inputs(rt: HostRuntime) -> Result<(), Fail> {
     let alloc = rt.alloc();
-    let refused = Exit::Module(ModuleFault::NotYet);
     let rows = [
         ("", Exit::Script { line: 1 }, ""),
         ("%%\n", Exit::Done, "ts 0\n"),
@@ -51,26 +52,22 @@ fn whole_inputs(rt: HostRuntime) -> Result<(), Fail> {
         ("%%\r", Exit::Done, "ts 0\n"),
         ("%%\n\n\r\n", Exit::Done, "ts 0\n"),
         ("%% \n", Exit::Script { line: 2 }, ""),
-        ("\n%%\r\n\n\r\n", refused, ""),
-        ("table t { }\n%%\n", refused, ""),
+        ("\n%%\r\n\n\r\n", Exit::Done, "ts 0\n"),
+        ("table t { }\n%%\n%%\n", Exit::Script { line: 3 }, ""),
         (
-            "table t { index by_n(n); }\nmutation m:size() { return count(\"t\"); }\n%%\n",
-            refused,
+            "table 1\n%%\nno line\n",
+            Exit::Module(ModuleFault::Syntax(SyntaxFault {
+                at: 6,
+                why: Why::WrongToken,
+            })),
             "",
         ),
         (
-            "table t { }\nmutation m:size() { return count(\"t\"); }\nmutation m:size() { return count(\"t\"); }\n%%\n",
-            refused,
-            "",
-        ),
-        (
-            "table t { }\nmutation m:keys() { return count(\"t\"); }\n%%\n",
-            refused,
-            "",
-        ),
-        (
-            "table t { }\nmutation m:size() { return count(\"t\"); }\n%%\n%%\n",
-            Exit::Script { line: 4 },
+            "query q:a() { return f(); }\n%%\nno line\n",
+            Exit::Module(ModuleFault::Check(CheckFault {
+                at: 21,
+                kind: CheckKind::UnknownHelper,
+            })),
             "",
         ),
     ];
@@ -104,10 +101,12 @@ fn other_words_are_usage(rt: HostRuntime) -> Result<(), Fail> {
 #[test]
 fn bad_lines(rt: HostRuntime) -> Result<(), Fail> {
     let alloc = rt.alloc();
-    let rows: [&[u8]; 21] = [
+    let rows: [&[u8]; 22] = [
         b" ",
         b"log ",
         b"open 0",
+        b"clock",
+        b"clock 01",
         b"call",
         b"call 00000000-0000-0000-0000-000000000001 2 m:size",
         b"call 0000000-0000-0000-0000-000000000001 2 m:size {}",
@@ -119,7 +118,6 @@ fn bad_lines(rt: HostRuntime) -> Result<(), Fail> {
         b"call 00000000-0000-0000-0000-000000000001 2 m:size {",
         b"call 00000000-0000-0000-0000-000000000001 2 m:size []",
         b"call 00000000-0000-0000-0000-000000000001 2 m:size {\"$integer\":\"AQAAAAAAAAA=\"}",
-        b"call 00000000-0000-0000-0000-000000000001 2 m:add {\"x\":\"1\"}",
         b"call 00000000-0000-0000-0000-000000000001 2 m:add {\"x\":1.0}",
         b"call 00000000-0000-0000-0000-000000000001 2 m:add {\"x\":-0}",
         b"call 00000000-0000-0000-0000-000000000001 2 m:add {\"x\":9223372036854775808}",
@@ -205,26 +203,44 @@ fn an_input_over_the_limit_is_too_large(rt: HostRuntime) -> Result<(), Fail> {
     Ok(())
 }
 
-// 8,192 documents can be counted, and one more can't.
-#[test]
-fn too_many_documents_to_count(rt: HostRuntime) -> Result<(), Fail> {
-    let alloc = rt.alloc();
-    let mut input = MODULE.as_bytes().to_vec(alloc)?;
-    for request in 0..8192u32 {
-        let line = format!(in alloc;
-            "call 00000000000000000000000000000001 {request} m:add {{\"x\":{request}}}\n"
-        )?;
-        input.extend_from_slice(line.as_bytes())?;
-    }
-    input.extend_from_slice(b"call 00000000000000000000000000000002 1 m:size {}\n")?;
-    input.extend_from_slice(b"call 00000000000000000000000000000002 2 m:add {\"x\":0}\n")?;
-    input.extend_from_slice(b"call 00000000000000000000000000000002 3 m:size {}\n")?;
+// What a module and a script behind it write.
+fn module_writes(rt: &impl Abort, alloc: Global, input: &str, text: &str) -> Result<(), Fail> {
+    let input = input.as_bytes().to_vec(alloc)?;
     let (ended, written) = replayed(alloc, &["replay"], input, &[], &[])?;
     assert_eq!(rt; ended, Exit::Done);
-    let last =
-        b"reply 8193 ok {\"$integer\":\"ACAAAAAAAAA=\"}\nreply 8194 ok {\"$integer\":\"AAAAAAAAAAA=\"}\nreply 8195 error \"TooMany\"\nts 8195\n";
-    assert!(rt; written.ends_with(last));
+    assert_eq!(rt; written.as_slice(), text.as_bytes());
     Ok(())
+}
+
+#[test]
+fn each_call_sees_its_moment(rt: HostRuntime) -> Result<(), Fail> {
+    module_writes(
+        &rt,
+        rt.alloc(),
+        "mutation m:at() { return now(); }\n%%\ncall 00000000-0000-0000-0000-000000000001 1 m:at {}\nclock 7\ncall 00000000-0000-0000-0000-000000000001 2 m:at {}\ncall 00000000-0000-0000-0000-000000000001 1 m:at {}\nclock 8\nclock -1\ncall 00000000-0000-0000-0000-000000000001 3 m:at {}\n",
+        "reply 1 ok {\"$integer\":\"AAAAAAAAAAA=\"}\nreply 2 ok {\"$integer\":\"BwAAAAAAAAA=\"}\nreply 1 ok {\"$integer\":\"AAAAAAAAAAA=\"}\nreply 3 ok {\"$integer\":\"//////////8=\"}\nts 3\n",
+    )
+}
+
+#[test]
+fn a_query_is_no_mutation(rt: HostRuntime) -> Result<(), Fail> {
+    module_writes(
+        &rt,
+        rt.alloc(),
+        "query q:a() { return 1; }\n%%\ncall 00000000-0000-0000-0000-000000000001 1 q:a {}\n",
+        "reply 1 error \"UnknownFunction\"\nts 1\n",
+    )
+}
+
+// A write that an error ends is dropped, and the next call sees the documents before it.
+#[test]
+fn an_error_drops_its_writes(rt: HostRuntime) -> Result<(), Fail> {
+    module_writes(
+        &rt,
+        rt.alloc(),
+        "table t { }\nmutation m:fail() { insert(\"t\", {}); throw \"no\"; }\nmutation m:size() { return count(\"t\"); }\n%%\ncall 00000000-0000-0000-0000-000000000001 1 m:fail {}\ncall 00000000-0000-0000-0000-000000000001 2 m:size {}\nlog\n",
+        "reply 1 error \"Thrown: no\"\nreply 2 ok {\"$integer\":\"AAAAAAAAAAA=\"}\nentry {\"args\":{},\"now\":{\"$integer\":\"AAAAAAAAAAA=\"},\"reply\":{\"error\":\"Thrown: no\"},\"request\":1,\"session\":\"00000000-0000-0000-0000-000000000001\",\"ts\":1,\"udf\":\"m:fail\",\"writes\":[]}\nentry {\"args\":{},\"now\":{\"$integer\":\"AAAAAAAAAAA=\"},\"reply\":{\"value\":{\"$integer\":\"AAAAAAAAAAA=\"}},\"request\":2,\"session\":\"00000000-0000-0000-0000-000000000001\",\"ts\":2,\"udf\":\"m:size\",\"writes\":[]}\nts 2\n",
+    )
 }
 
 #[test]

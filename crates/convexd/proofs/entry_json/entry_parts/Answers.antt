@@ -1,5 +1,5 @@
 use Rattle.std.proofs.Common.{◌∙◌}
-use Rattle.convexd.specs.EntryJson.{entry_members}
+use Rattle.convexd.specs.EntryLines.{entry_members}
 use Rattle.convexd.proofs.entry_json.entry_parts.Goals as goal
 
 pub returns : goal.returns

@@ -1,4 +1,4 @@
-use Rattle.convexd.proofs.OneLog.{one_log}
+use Rattle.convexd.proofs.Logs.{one_log}
 use Rattle.convexd.proofs.laws.scripts_make_one_log.Goals as goal
 
 pub returns : goal.returns
