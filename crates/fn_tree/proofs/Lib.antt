@@ -1,7 +1,9 @@
+pub mod ActionsAsk
 pub mod Again
 pub mod Alike
 pub mod AsciiEnds
 pub mod Begins
+pub mod BodiesAsk
 pub mod CanonicalLaws
 pub mod CanonicalTokens
 pub mod CanonicalUtf8
@@ -30,6 +32,7 @@ pub mod Relexed
 pub mod RowsOfIds
 pub mod RowsUnderPuts
 pub mod RunsAgree
+pub mod RunsAsk
 pub mod SameModules
 pub mod SameTrees
 pub mod StatementTexts

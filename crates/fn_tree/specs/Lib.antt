@@ -1,4 +1,5 @@
 pub mod Actions
+pub mod AsksThere
 pub mod CallExamples
 pub mod Canonical
 pub mod CanonicalLaws

@@ -1,4 +1,5 @@
 //! Laws of the definitions, each a function with nothing to do.
+ghost use Rattle.fn_tree.specs.AsksThere.{RunsAskThere};
 ghost use Rattle.fn_tree.specs.CanonicalLaws.{CanonicalReadsBack};
 ghost use Rattle.fn_tree.specs.CommitLaws.{CommitsAreLegal, AnswersStay};
 ghost use Rattle.fn_tree.specs.ExpressionExamples.{IsWorkedExpressions};
@@ -55,6 +56,11 @@ pub fn legal_histories()
 /// and each id that has none is one of the run's own.
 pub fn runs_put_truly()
     ensures { RunsPutTruly }
+{}
+
+/// Each scan that a run asks for is one of an index that its program has, whatever the answers are.
+pub fn runs_ask_there()
+    ensures { RunsAskThere }
 {}
 
 /// What a run read decides it: on documents that have the same rows in each interval that it read, a

@@ -1,45 +1,34 @@
-use Rattle.std.proofs.Common.{◌≡◌, ◌∙◌, ◌+◌, Bool, List, [], ◌∷◌, ◌++◌, map, drop, get_or, refl, sym, ap, subst, arith, rules}
-use Rattle.std.specs.Prelude.{Option, None, codes}
+use Rattle.std.proofs.Common.{◌≡◌, ◌∙◌, ◌+◌, Bool, List, [], ◌∷◌, ◌++◌, map, drop, get_or, refl, sym, ap, subst, arith, rules, ℕ, Vec, add-one}
+use Rattle.std.specs.Prelude.{Option, None, codes, if◌then◌else◌}
 use Rattle.std.specs.Option.{option_map}
 use Rattle.std.proofs.lemmas.Result.{IfOk-weaker, IfErr-weaker}
 use Rattle.cv_values.specs.Trees.{tree}
 use Rattle.cv_values.specs.Value.{Value, null, boolean}
-use Rattle.fn_tree.specs.Actions.{Action, ◌>>=◌, give, fail, or_type_error, Meaning, Scope, spend, as_truth}
+use Rattle.fn_tree.specs.Actions.{Action, ◌>>=◌, give, fail, or_type_error, Meaning, Scope, spend, as_truth, as_text, as_items}
 use Rattle.fn_tree.specs.Functions.{function_means}
-use Rattle.fn_tree.specs.Meaning.{helper_value, expr_means, exprs_mean, entries_mean, bounds_mean, limit_means}
-use Rattle.fn_tree.specs.Names.{at_name}
+use Rattle.fn_tree.specs.Meaning.{helper_value, expr_means, exprs_mean, entries_mean, bounds_mean, limit_means, Return, stmt_means, act_means, stmts_mean, else_means, throw_text, turns}
+use Rattle.fn_tree.specs.Names.{at_name, assigned, bound_to, outside}
 use Rattle.fn_tree.specs.Operators.{right_side}
 use Rattle.fn_tree.specs.Reading.{limit_of as limit_value}
-use Rattle.fn_tree.specs.SyntaxTree.{FunctionTree, Expr}
-use Rattle.fn_tree.specs.SyntaxViews.{expr_view, bound_view, exprs_of, entries_of, bounds_of, limit_of, form_view, function_view}
+use Rattle.fn_tree.specs.SyntaxViews.{expr_view, bound_view, exprs_of, entries_of, bounds_of, limit_of, form_view, function_view, stmt_view, act_view, stmts_of, else_view}
 use Rattle.fn_plain.specs.Forms.{after_one, after_two, after_many, after_members, after_bounds}
-use Rattle.fn_plain.specs.Scopes.{pairs_view, bounds_view}
-use Rattle.fn_plain.specs.States.{Gives, Fails, site_at}
+use Rattle.fn_plain.specs.Scopes.{pairs_view, bounds_view, Flows, chosen, turn_of}
+use Rattle.fn_plain.specs.States.{Gives, Fails, site_at, Leaves, Returns, Breaks}
 use Rattle.fn_plain.proofs.Evaluated.{means_form, size_form, decided, undecided}
-use Rattle.fn_plain.proofs.Falls.{size_rises, got}
+use Rattle.fn_plain.proofs.Falls.{size_rises, got, item_falls, same_function, size_after}
 use Rattle.fn_plain.proofs.Faults.{handed_on}
-use Rattle.fn_plain.proofs.Steps.{gave_pure, gives_as, fails_as, fails_by, refused, first_fails, then_gives, then_fails}
+use Rattle.fn_plain.proofs.Steps.{gave_pure, gives_as, fails_as, fails_by, refused, first_fails, then_gives, then_fails, Reaches, Comes, fails_first, then_leaves, then_returns, then_breaks, returned, return_breaks, returns_first, breaks_first, came_returns, came_breaks, given_by, left_gives, action_leaves, action_breaks, returned_gives, broken_fails}
 use Rattle.std.proofs.lemmas.List.{map-append}
 use Rattle.std.specs.declared.alloc.Global.{Global}
-use Rattle.std.proofs.Common.{ℕ, Vec, add-one}
 use Rattle.cv_values.specs.declared.val.Val.{Val}
-use Rattle.fn_tree.specs.Meaning.{Return, stmt_means, act_means, stmts_mean, else_means, throw_text, turns}
-use Rattle.fn_tree.specs.Actions.{as_text, as_items, or_type_error}
 use Rattle.fn_tree.specs.SyntaxTree as plain
 use Rattle.fn_tree.specs.declared.syntax.StmtForm.TheVariants as act
-use Rattle.std.specs.Prelude.{if◌then◌else◌}
-use Rattle.fn_tree.specs.Names.{assigned, bound_to, outside}
-use Rattle.fn_tree.specs.SyntaxViews.{stmt_view, act_view, stmts_of, else_view}
 use Rattle.fn_tree.specs.declared.syntax.BoundExpr.{BoundExpr as HeldBound}
 use Rattle.fn_tree.specs.declared.syntax.CompareOp.{CompareOp}
 use Rattle.fn_tree.specs.declared.syntax.Expr.{Expr as Held}
 use Rattle.fn_tree.specs.declared.syntax.Named.{Named}
-use Rattle.fn_plain.specs.Scopes.{Flows, chosen, turn_of}
 use Rattle.fn_plain.specs.Sizes.{expr_size, exprs_size, entries_size, bounds_size, limit_size, stmt_size, stmts_size, size_before}
-use Rattle.fn_plain.specs.States.{Leaves, Returns, Breaks}
-use Rattle.fn_plain.proofs.Falls.{item_falls, same_function, size_after}
 use Rattle.fn_plain.proofs.Loops.{behind, and_rest, collect_none, collect_more, collect_end, collect_fails, came_nothing, came_then, came_more, came_end, next_left, none_left, cut_back}
-use Rattle.fn_plain.proofs.Steps.{Reaches, Comes, fails_first, then_leaves, then_returns, then_breaks, returned, return_breaks, returns_first, breaks_first, came_returns, came_breaks, given_by, left_gives, action_leaves, action_breaks, returned_gives, broken_fails}
 use Rattle.fn_tree.proofs.FormViews.{act-Let, act-Assign, act-Eval, act-If, act-For, act-Return, act-Throw}
 use Rattle.fn_plain.proofs.Done.{left_pure, flows_then, blocked, flows_block, block_of, turns_of, does_as, chooses, chosen_falls, throws}
 use Rattle.fn_plain.proofs.Views.{bound_is, done_as}
@@ -547,13 +536,13 @@ pub play_function-returns-in_default-clause-err : goal.play_function-returns-in_
 play_function-returns-in_default-clause-err t c f k =
     let x = c.args.context.now in let p = c.args.progress.now in let s = site_at x c.args.number in let g = get_or x.functions.now c.args.number c.index-context-number.result in let vs = map tree c.args.values.items in let same = same_function x.functions.now c.args.number g f c.requires.there (ap (get_or x.functions.now c.args.number) c.index-context-number.is) k in let body = λ (back : Return) (scope : Scope). stmts_mean (stmts_of (map stmt_view g.body.items)) s back scope in
     let run = λ (scope : Scope). given_by (λ back. body back scope) in let bound = ap (λ ps. bound_to ps vs) (sym c.as_slice.ensures.value) ∙ sym c.in_ok-scope.ensures ∙ ap (option_map (λ (s : Vec (List ℕ × Val) Global). pairs_view s.items)) c.in_default.is in let e = c.failure.result in
-    subst (λ (h : FunctionTree). Fails x p p (function_means s h vs) e) same
+    subst (λ (h : plain.FunctionTree). Fails x p p (function_means s h vs) e) same
     (first_fails x p p (or_type_error (bound_to g.params.items vs)) run e (fails_by x p e (codes "TypeError") (ap or_type_error bound) c.failure.ensures))
 
 pub play_function-play_block-requires : goal.play_function-play_block-requires
 play_function-play_block-requires t c =
     let x = c.args.context.now in let fs = map function_view x.functions.now in let g = got x.functions.now c.args.number c.requires.there in let same = same_function x.functions.now c.args.number (get_or x.functions.now c.args.number c.index-context-number.result) g.0 c.requires.there (ap (get_or x.functions.now c.args.number) c.index-context-number.is) g.1 in let e = size_after fs c.args.number g.0 g.1 in
-    let b = ap (λ (h : FunctionTree). stmts_size h.body) same in let k = ap (λ ss. stmts_size (stmts_of (map stmt_view ss))) c.as_slice-2.ensures.value in let o = ap (size_before fs) (add-one c.args.number) in
+    let b = ap (λ (h : plain.FunctionTree). stmts_size h.body) same in let k = ap (λ ss. stmts_size (stmts_of (map stmt_view ss))) c.as_slice-2.ensures.value in let o = ap (size_before fs) (add-one c.args.number) in
     (omega arith, (c.requires.within, omega (arith, c.requires.there)))
 
 pub play_function-returns-in_err-play_block-clause-err : goal.play_function-returns-in_err-play_block-clause-err
@@ -562,7 +551,7 @@ play_function-returns-in_err-play_block-clause-err t c f k =
     let run = λ (scope : Scope). given_by (λ back. body back scope) in let bound = ap (λ ps. bound_to ps vs) (sym c.as_slice.ensures.value) ∙ sym c.in_ok-scope.ensures ∙ ap (option_map (λ (s : Vec (List ℕ × Val) Global). pairs_view s.items)) c.in-Some.is in let scope = pairs_view c.in-Some.scope.items in let new = c.play_block.new.progress in let known = gives_as (ap or_type_error bound) (gave_pure scope c.requires.within) in let slice = c.as_slice-2.ensures.value in let e = c.in_err-play_block.field-0.0 in
     let h = subst (λ ss. Breaks x p new (λ back. stmts_mean (stmts_of (map stmt_view ss)) s back scope) e) slice c.in_err-play_block.ensures.err in
     handed_on c.from_residual-in_err-play_block.result e _
-    (subst (λ (h : FunctionTree). Fails x p new (function_means s h vs) e) same (then_fails run new e known (broken_fails x p new (λ back. body back scope) e h)))
+    (subst (λ (h : plain.FunctionTree). Fails x p new (function_means s h vs) e) same (then_fails run new e known (broken_fails x p new (λ back. body back scope) e h)))
     c.from_residual-in_err-play_block.ensures.1
 
 pub play_function-returns-in-On-clause-ok : goal.play_function-returns-in-On-clause-ok
@@ -571,7 +560,7 @@ play_function-returns-in-On-clause-ok t c f k =
     let run = λ (scope : Scope). given_by (λ back. body back scope) in let bound = ap (λ ps. bound_to ps vs) (sym c.as_slice.ensures.value) ∙ sym c.in_ok-scope.ensures ∙ ap (option_map (λ (s : Vec (List ℕ × Val) Global). pairs_view s.items)) c.in-Some.is in let scope = pairs_view c.in-Some.scope.items in
     let new = c.play_block.new.progress in let known = gives_as (ap or_type_error bound) (gave_pure scope c.requires.within) in let slice = c.as_slice-2.ensures.value in let ends = pairs_view c.play_block.new.scope.items in let h = subst (λ ss. Flows x p new (λ back. stmts_mean (stmts_of (map stmt_view ss)) s back scope) ends c.in_ok-play_block.field-0) slice c.in_ok-play_block.ensures.ok in
     let done : Leaves x p new (λ back. body back scope) (pairs_view c.play_block.new.scope.items) = subst (λ flow. Flows x p new (λ back. body back scope) ends flow) c.in-On.is h in
-    subst (λ (h : FunctionTree). Gives x p new (function_means s h vs) null) same (then_gives run known (left_gives done))
+    subst (λ (h : plain.FunctionTree). Gives x p new (function_means s h vs) null) same (then_gives run known (left_gives done))
 
 pub play_function-returns-clause-ok : goal.play_function-returns-clause-ok
 play_function-returns-clause-ok t c f k =
@@ -579,7 +568,7 @@ play_function-returns-clause-ok t c f k =
     let run = λ (scope : Scope). given_by (λ back. body back scope) in let bound = ap (λ ps. bound_to ps vs) (sym c.as_slice.ensures.value) ∙ sym c.in_ok-scope.ensures ∙ ap (option_map (λ (s : Vec (List ℕ × Val) Global). pairs_view s.items)) c.in-Some.is in let scope = pairs_view c.in-Some.scope.items in
     let new = c.play_block.new.progress in let known = gives_as (ap or_type_error bound) (gave_pure scope c.requires.within) in let slice = c.as_slice-2.ensures.value in let ends = pairs_view c.play_block.new.scope.items in let h = subst (λ ss. Flows x p new (λ back. stmts_mean (stmts_of (map stmt_view ss)) s back scope) ends c.in_ok-play_block.field-0) slice c.in_ok-play_block.ensures.ok in
     let done : Returns x p new (λ back. body back scope) (tree c.in-Returned.v) = subst (λ flow. Flows x p new (λ back. body back scope) ends flow) c.in-Returned.is h in
-    subst (λ (h : FunctionTree). Gives x p new (function_means s h vs) (tree c.in-Returned.v)) same (then_gives run known (returned_gives done))
+    subst (λ (h : plain.FunctionTree). Gives x p new (function_means s h vs) (tree c.in-Returned.v)) same (then_gives run known (returned_gives done))
 
 pub play_stmt-spend-requires : goal.play_stmt-spend-requires
 play_stmt-spend-requires t c =
