@@ -3,6 +3,7 @@ use Rattle.std.specs.Prelude.{◌≡◌, ◌⊎◌, ℕ, ◌+◌, ◌-◌, ◌^�
 use Rattle.cv_keys.specs.declared.interval.Interval.{Interval}
 use Rattle.fn_tree.specs.History.{History, start_of, docs_at}
 use Rattle.fn_tree.specs.Run.{run}
+use Rattle.fn_tree.specs.SyntaxTree.{ModuleTree}
 use Rattle.fn_tree.specs.declared.entry.Call.{Call}
 use Rattle.fn_tree.specs.declared.entry.Reply.{Reply}
 use Rattle.fn_tree.specs.declared.stop.Query.{Query}
@@ -16,17 +17,18 @@ use Rattle.cv_store.specs.declared.proposal.Ended.{Ended}
 use Rattle.cv_store.specs.declared.proposal.Ended.TheVariants as ended
 use Rattle.cv_store.specs.declared.proposal.Proposal.{Proposal}
 
--- what a job means that isn't at a begin: the call given there, the snapshot, the number of reads made, and what the last step's store had then seen
+-- what a job means that isn't at a begin: the program and the call given there, the snapshot, the number of reads made, and what the last step's store had then seen
 pub record Under : Type 0 where
+  pub program : ModuleTree
   pub call : Call
   pub snapshot : ℕ
   pub reads : ℕ
   pub seen : History
 
--- a job goes on over a store that has seen what its last step's store had, with the call of its begin
+-- a job goes on over a store of its begin's program that has seen what its last step's store had, with the call of its begin
 abbrev pub GoesOnOver : Option Under → Standing → Call → Type 0
 GoesOnOver None s call = Unit {0}
-GoesOnOver (Some u) s call = GoesOn u.seen s.seen × (call ≡ u.call)
+GoesOnOver (Some u) s call = (s.program ≡ u.program) × GoesOn u.seen s.seen × (call ≡ u.call)
 
 -- one run more, as far as it can be counted
 abbrev pub one_more : ℕ → ℕ
@@ -42,7 +44,7 @@ begun_as (begun.Fresh ts) = Moved
 begun_as (begun.Known ts reply) = Done ts reply
 
 abbrev pub under_of : Standing → Call → Begun → Option Under
-under_of t call (begun.Fresh ts) = Some (record { call = call; snapshot = ts; reads = 0; seen = t.seen })
+under_of t call (begun.Fresh ts) = Some (record { program = t.program; call = call; snapshot = ts; reads = 0; seen = t.seen })
 under_of t call (begun.Known ts reply) = None
 
 abbrev pub runs_after : Begun → ℕ → ℕ

@@ -1,6 +1,8 @@
 -- What a store means, and what one call may do to it.
 use Rattle.std.specs.Prelude.{◌≡◌, ◌⊎◌, ℕ, ◌≤◌, List, [], ◌∷◌, ◌++◌, length, map, Option, Some, None, option_map}
+use Rattle.std.specs.List.{AllByRecursion}
 use Rattle.cv_keys.specs.Intervals.{in_bytes}
+use Rattle.cv_keys.specs.KeyOrder.{EndInRange}
 use Rattle.cv_keys.specs.declared.interval.Interval.{Interval}
 use Rattle.cv_keys.specs.declared.schema.Schema.{Schema}
 use Rattle.fn_tree.specs.EntryViews.{reply_view}
@@ -63,10 +65,11 @@ pub record Reads (s t : Standing) : Type 0 where
 
 -- ---- runs
 
--- these are the reply and the reads of a run, whose intervals stand in bytes
+-- these are the reply and the reads of a run, whose intervals stand in bytes; their ends are some that the key order law speaks of
 pub record IsAnswer (r : Run) (reply : Reply) (reads : List Interval) : Type 0 where
   pub same_reply : reply_view reply ≡ r.reply
   pub same_reads : reads ≡ map in_bytes r.reads
+  pub ends : AllByRecursion (λ i. EndInRange i.lo × EndInRange i.hi) r.reads
 
 -- the run of a query at a timestamp
 abbrev pub query_run : Standing → Query → (ts : ℕ) → Run

@@ -40,7 +40,7 @@ IsProgramSchema schema = (tables : List TableTree) × (schema ≡ schema_of tabl
 -- the rows of an answer, and what they tell of in bytes
 pub record Answers (held : Held) (a : Answer) : Type 0 where
   pub docs : held.docs.items ≡ a.docs
-  pub consumed : held.consumed ≡ in_bytes a.consumed
+  pub consumed : IsBytesOf a.consumed held.consumed
 
 -- the part of an interval that these rows tell of: where the scan was cut, up to and including the last of them
 abbrev pub part_of : Option Index → PlaceInterval → (desc cut : Bool) → List Doc → PlaceInterval

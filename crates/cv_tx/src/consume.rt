@@ -1,6 +1,5 @@
 //! How many rows a scan consumes, and the interval that they tell of.
 ghost use Rattle.std.specs.Prelude.{◌≡◌, ◌++◌, [], ◌∷◌, length, take, drop, true, IfOk, Some, None, is_some};
-ghost use Rattle.cv_keys.specs.Intervals.{in_bytes};
 ghost use Rattle.cv_keys.specs.Places.{PlaceInterval};
 ghost use Rattle.fn_tree.specs.Scan.{rows_size, passed, is_cut, consumed_after, scan_answer};
 ghost use Rattle.cv_tx.specs.Asks.{IsBytesOf, Answers, part_of, scan_of};
@@ -56,7 +55,7 @@ fn count_taken(rows: &[Doc], limit: Option<u32>, left: &Left) -> Result<Taken, M
 
 /// The part of an interval before the first row of a scan.
 fn before_rows(alloc: Global, i: &Interval, desc: bool) -> Result<Interval, Memory>
-    ensures { (p : PlaceInterval) → IsBytesOf p i.now → IfOk result (λ c. c ≡ in_bytes (part_of None p desc true [])) }
+    ensures { (p : PlaceInterval) → IsBytesOf p i.now → IfOk result (λ c. IsBytesOf (part_of None p desc true []) c) }
 {
     let mut part = i.copy(alloc)?;
     if desc {
@@ -75,7 +74,7 @@ fn up_to(
     desc: bool,
     row: &Doc,
 ) -> Result<Interval, Memory>
-    ensures { (p : PlaceInterval) → IsBytesOf p i.now → IfOk result (λ c. c ≡ in_bytes (part_of (Some index.now) p desc true (row.now ∷ []))) }
+    ensures { (p : PlaceInterval) → IsBytesOf p i.now → IfOk result (λ c. IsBytesOf (part_of (Some index.now) p desc true (row.now ∷ [])) c) }
 {
     let key = index_key(alloc, row, index)?;
     let mut part = i.copy(alloc)?;
@@ -96,7 +95,7 @@ fn part_of(
     cut: bool,
     rows: &[Doc],
 ) -> Result<Interval, Memory>
-    ensures { (p : PlaceInterval) → IsBytesOf p i.now → IfOk result (λ c. c ≡ in_bytes (part_of (Some index.now) p desc cut rows.now)) }
+    ensures { (p : PlaceInterval) → IsBytesOf p i.now → IfOk result (λ c. IsBytesOf (part_of (Some index.now) p desc cut rows.now) c) }
 {
     if !cut {
         return i.copy(alloc);

@@ -1,8 +1,7 @@
-use Rattle.std.proofs.Common.{◌≡◌, Bool, List, Some, length, take, sym, ap, ◌∙◌}
+use Rattle.std.proofs.Common.{◌≡◌, Bool, List, Some, length, take, sym, ap, ◌∙◌, subst}
 use Rattle.cv_values.specs.declared.doc.Doc.{Doc}
-use Rattle.cv_keys.specs.Intervals.{in_bytes}
 use Rattle.fn_tree.specs.Scan.{rows_size, is_cut, consumed_after}
-use Rattle.cv_tx.specs.Asks.{part_of}
+use Rattle.cv_tx.specs.Asks.{IsBytesOf, part_of}
 use Rattle.cv_tx.proofs.consume.consume.Goals as goal
 
 pub returns : goal.returns
@@ -20,7 +19,7 @@ returns c p stands =
     ∙ ap (is_cut limit left (length ds)) (c.in_ok-taken.ensures.size ∙ ap rows_size same) in
     record {
       docs = docs;
-      consumed = c.in_ok-consumed.ensures p stands
-          ∙ ap (λ (l : List Doc). in_bytes (part_of (Some index) p c.args.desc c.is_cut-cut.result l)) (c.as_slice-2.ensures.value ∙ docs)
-          ∙ ap (λ (b : Bool). in_bytes (part_of (Some index) p c.args.desc b ds)) cut;
+      consumed = subst (λ (b : Bool). IsBytesOf (part_of (Some index) p c.args.desc b ds) c.in_ok-consumed.consumed) cut
+          (subst (λ (l : List Doc). IsBytesOf (part_of (Some index) p c.args.desc c.is_cut-cut.result l) c.in_ok-consumed.consumed) (c.as_slice-2.ensures.value ∙ docs)
+          (c.in_ok-consumed.ensures p stands));
     }

@@ -1,11 +1,10 @@
 use Rattle.std.proofs.Common.{◌≡◌, ◌-◌, Bool, true, false, List, [], ◌∷◌, length, get_or, Some, ap, ◌∙◌, subst, arith}
 use Rattle.std.specs.Prelude.{IfOk, nat_lt}
 use Rattle.cv_values.specs.declared.doc.Doc.{Doc}
-use Rattle.cv_keys.specs.Intervals.{in_bytes}
 use Rattle.cv_keys.specs.Places.{PlaceInterval}
 use Rattle.cv_keys.specs.declared.schema.Index.{Index}
 use Rattle.fn_tree.specs.Scan.{last_of}
-use Rattle.cv_tx.specs.Asks.{part_of}
+use Rattle.cv_tx.specs.Asks.{IsBytesOf, part_of}
 use Rattle.cv_tx.proofs.consume.part_of.Goals as goal
 
 last-is : (d : Doc) (es : List Doc) (row other : Doc) → row ≡ get_or (d ∷ es) (length es) other → row ≡ last_of d es
@@ -25,5 +24,5 @@ part-last index p false true (d ∷ es) row e f h =
 pub returns-in-Some : goal.returns-in-Some
 returns-in-Some c p stands =
     let row = c.in-Some.row.now in
-    subst (λ q. IfOk c.up_to.result (λ part. part ≡ in_bytes q))
+    subst (λ q. IfOk c.up_to.result (λ part. IsBytesOf q part))
     (part-last c.args.index.now p c.args.desc c.args.cut c.args.rows.now row c.if-not-cut.false c.in-Some.ensures.item.0 c.in-Some.ensures.item.1) (c.up_to.ensures p stands)
