@@ -2,6 +2,7 @@ pub mod Arguments
 pub mod Bounds
 pub mod Calls
 pub mod Following
+pub mod LastUses
 pub mod Lists
 pub mod Machines
 pub mod OperandsTaken

@@ -16,7 +16,7 @@ use Rattle.fn_tree.specs.declared.syntax.Builtin.{Builtin}
 use Rattle.fn_tree.specs.declared.syntax.Builtin.TheVariants.{Len, Has, Push, Set, Without, Slice, Range, Show, Keys}
 use Rattle.fn_vm.specs.Held.{IsGiven, given_many, all_there}
 
-on_many_is : (s : State) (op : List Value → Given) (stack : List Value) (o : Option (List Value)) →
+pub on_many_is : (s : State) (op : List Value → Given) (stack : List Value) (o : Option (List Value)) →
     on_many s op (option_map {U = List Value × List Value} (λ vs. (vs, stack)) o) ≡ pushes_given s (given_many op o) stack
 on_many_is s op stack None = refl
 on_many_is s op stack (Some vs) = refl
@@ -72,6 +72,12 @@ three_given s op a b d vars stack under mid left x y z seen_x seen_y seen_z r ne
     (more_operands a (b ∷ d ∷ []) vars stack mid left x (y ∷ z ∷ [])
     (more_operands b (d ∷ []) vars stack under mid y (z ∷ []) (more_operands d [] vars stack stack under z [] refl ez) ey) ex)
     (ap (λ v. v ∷ seen_y ∷ seen_z ∷ []) fx ∙ ap₂ (λ (v w : Option Value). x ∷ v ∷ w ∷ []) fy fz) g h
+
+-- what was given of three values, by the operands that they are
+pub three_seen : (r : Result Val OpFault) (op : List Value → Given) (x y z a b d : Option Value) → x ≡ a → y ≡ b → z ≡ d →
+    IsGiven r (given_many op (all_there (x ∷ y ∷ z ∷ []))) → IsGiven r (given_many op (all_there (a ∷ b ∷ d ∷ [])))
+three_seen r op x y z a b d p q s g =
+    subst (λ xs. IsGiven r (given_many op (all_there xs))) (ap₂ (λ (v w : Option Value). v ∷ w ∷ z ∷ []) p q ∙ ap (λ (w : Option Value). a ∷ b ∷ w ∷ []) s) g
 
 -- a fault of a call that takes no memory
 pub given_exact : (r : Result Val OpFault) (g : Given) → IfOk r (λ v. g ≡ Ok (tree v)) → IfErr r (λ e. g ≡ Err e) → IsGiven r g

@@ -1,4 +1,5 @@
 pub mod Held
+pub mod LastUses
 pub mod Machines
 pub mod Moves
 pub mod Scans

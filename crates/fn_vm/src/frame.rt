@@ -1,6 +1,7 @@
 //! A function under way: its variables, the values that aren't used yet, and its loops.
 ghost use Rattle.std.specs.Prelude.{◌≡◌, ◌++◌, ◌∷◌, [], IfOk, IfSome, IfNone, OnOk, Some, map, option_map, slice_get, take, drop as cut};
 ghost use Rattle.cv_values.specs.Trees.{tree};
+ghost use Rattle.cv_values.specs.Value.{null};
 ghost use Rattle.fn_code.specs.Operands.{popped, stored};
 
 use cv_values::{Memory, Val, Vals};
@@ -182,6 +183,28 @@ impl Slots {
         ensures { option_map (λ v. tree v.now) result ≡ slice_get self.now n }
     {
         self.items.get(n as usize)
+    }
+
+    /// A copy of the value of a variable.
+    pub fn copy(&self, alloc: Global, n: u64) -> Result<Option<Val>, Memory>
+        ensures { IfOk result (λ v. option_map tree v ≡ slice_get self.now n) }
+    {
+        match self.get(n) {
+            Some(v) => Ok(Some(v.copy(alloc)?)),
+            None => Ok(None),
+        }
+    }
+
+    /// The value of a variable, which is null behind this.
+    pub fn take(&mut self, n: u64) -> Option<Val>
+        ensures value { option_map tree result ≡ slice_get self.old n }
+        ensures behind { self.new ≡ stored n null self.old }
+    {
+        let place = n as usize;
+        if place < self.items.len() {
+            return Some(mem::replace(&mut self.items[place], Val::Null));
+        }
+        None
     }
 
     /// One variable more.

@@ -8,6 +8,7 @@
 mod control;
 mod counts;
 mod frame;
+mod last_use;
 mod machine;
 mod operands;
 mod reads;

@@ -1,13 +1,15 @@
 //! One instruction, and the instructions up to the next stop.
-ghost use Rattle.std.specs.Prelude.{◌≡◌, ◌<◌, ◌^◌, IfOk, IfSome, option_map, slice_get};
+ghost use Rattle.std.specs.Prelude.{◌≡◌, ◌<◌, ◌^◌, ◌+◌, IfOk, IfSome, Some, option_map, slice_get};
 ghost use Rattle.fn_code.specs.CodeMeans.{Follows};
 ghost use Rattle.fn_code.specs.States.{on};
 ghost use Rattle.fn_code.specs.Steps.{step_by, step, goes_on, answered};
 ghost use Rattle.fn_tree.specs.Course.{Course};
+ghost use Rattle.fn_vm.specs.LastUses.{first_in, second_in, Leads};
 ghost use Rattle.fn_vm.specs.Machines.{Reaches};
 ghost use Rattle.fn_vm.specs.Moves.{Moves};
 ghost use Rattle.fn_vm.specs.Views.{state_view, terms_view};
 
+use crate::last_use::LastUse;
 use crate::run::{Run, Terms, as_stop};
 use crate::stop::Stop;
 use cv_values::{Doc, Memory, Val};
@@ -21,10 +23,23 @@ fn instr_at(code: &Code, at: u128) -> Option<&Instr>
     code.instrs.as_slice().get(usize::try_from(at).ok()?)
 }
 
+// The last use of a variable at a place, with the next instruction.
+fn last_use(code: &Code, at: u128, instr: &Instr) -> Option<LastUse>
+    requires { at < 2 ^ 64 }
+    ensures first { IfSome result (λ last. instr.now ≡ first_in last) }
+    ensures second { IfSome result (λ last. slice_get code.now.instrs (at + 1) ≡ Some (second_in last)) }
+{
+    match instr {
+        Instr::Load(_) | Instr::Builtin(_, _) => LastUse::of(instr, instr_at(code, at + 1)?),
+        _ => None,
+    }
+}
+
 impl Run {
     // One instruction. Each costs no more than what it does with values: a constant, a jump, a variable's
     // declaration and a store take constant time; a load copies the value; an operation looks at its
-    // operands where they are; and a read or a write copies what it asks for or puts.
+    // operands where they are, and moves what goes into its result; and a read or a write copies what it
+    // asks for or puts.
     fn step_by(&mut self, terms: &Terms, code: &Code, instr: &Instr) -> Result<Option<Stop>, Memory>
         requires { self.old.frame.at < 2 ^ 64 }
         ensures { IfOk result (λ stop. Moves (step_by (terms_view terms.now) code.now (state_view self.old) instr.now) stop (state_view self.new)) }
@@ -73,13 +88,16 @@ impl Run {
         }
     }
 
-    // Goes on by one instruction.
+    // Goes on by one instruction, or by two where the first is the last use of a variable.
     fn step(&mut self, terms: &Terms, code: &Code) -> Result<Option<Stop>, Memory>
-        ensures { IfOk result (λ stop. Moves (step (terms_view terms.now) code.now (state_view self.old)) stop (state_view self.new)) }
+        ensures { IfOk result (λ stop. Leads (terms_view terms.now) code.now (state_view self.old) stop (state_view self.new)) }
     {
-        match instr_at(code, self.frame.at) {
-            None => self.stop("TypeError"),
-            Some(instr) => self.step_by(terms, code, instr),
+        let Some(instr) = instr_at(code, self.frame.at) else {
+            return self.stop("TypeError");
+        };
+        match last_use(code, self.frame.at, instr) {
+            Some(last) => Ok(as_stop(self.use_up(terms, last)?)),
+            None => self.step_by(terms, code, instr),
         }
     }
 

@@ -1,5 +1,5 @@
 //! Instructions on values.
-ghost use Rattle.std.specs.Prelude.{◌≡◌, ◌<◌, ◌^◌, ◌∷◌, [], IfOk, length, map, option_map, zip};
+ghost use Rattle.std.specs.Prelude.{◌≡◌, ◌≢◌, ◌<◌, ◌^◌, ◌∷◌, [], IfOk, length, map, option_map, zip};
 ghost use Rattle.cv_values.specs.Trees.{tree};
 ghost use Rattle.cv_values.specs.Value.{values_of};
 ghost use Rattle.fn_code.specs.Operands.{operand, operands, popped};
@@ -8,9 +8,10 @@ ghost use Rattle.fn_ops.specs.Operations as ops;
 ghost use Rattle.fn_tree.specs.Actions.{op_text};
 ghost use Rattle.fn_tree.specs.Operators.{unary_value, eager_value, builtin_value, holds};
 ghost use Rattle.fn_tree.specs.Writing.{with_members};
-ghost use Rattle.fn_vm.specs.Held.{IsGiven, given_one, given_many, all_there};
+ghost use Rattle.fn_vm.specs.Held.{IsGiven, value_of, given_one, given_many, all_there};
 ghost use Rattle.fn_vm.specs.Views.{state_view, went};
 
+use crate::frame::Slots;
 use crate::operands::Operand;
 use crate::run::Run;
 use cv_values::{Fields, Memory, Text, Val, Vals, compare};
@@ -20,7 +21,7 @@ use fn_tree::{BinaryOp, Builtin, CompareOp, Outcome, UnaryOp};
 use std::alloc::Global;
 use std::cmp::Ordering;
 
-fn name_of(fault: OpFault) -> &'static str
+pub fn name_of(fault: OpFault) -> &'static str
     ensures { result.now ≡ op_text fault }
 {
     match fault {
@@ -236,8 +237,7 @@ impl Run {
     {
         let second = Operand::of(&mut self.frame.stack, y);
         let first = Operand::of(&mut self.frame.stack, x);
-        let vars = &self.frame.vars;
-        let given = two_given(self.alloc, b, first.value(vars), second.value(vars));
+        let given = two_given(self.alloc, b, &self.frame.vars, first, second);
         self.settle(given)
     }
 
@@ -254,14 +254,7 @@ impl Run {
         let third = Operand::of(&mut self.frame.stack, z);
         let second = Operand::of(&mut self.frame.stack, y);
         let first = Operand::of(&mut self.frame.stack, x);
-        let vars = &self.frame.vars;
-        let given = three_given(
-            self.alloc,
-            b,
-            first.value(vars),
-            second.value(vars),
-            third.value(vars),
-        );
+        let given = three_given(self.alloc, b, &self.frame.vars, first, second, third);
         self.settle(given)
     }
 }
@@ -277,17 +270,54 @@ fn one_given(alloc: Global, b: Builtin, x: Option<&Val>) -> Result<Val, OpFault>
     }
 }
 
-fn two_given(alloc: Global, b: Builtin, x: Option<&Val>, y: Option<&Val>) -> Result<Val, OpFault>
-    ensures { IsGiven result (given_many (builtin_value b) (all_there (option_map (λ v. tree v.now) x.entry ∷ option_map (λ v. tree v.now) y.entry ∷ []))) }
+fn two_given(
+    alloc: Global,
+    b: Builtin,
+    vars: &Slots,
+    x: Operand,
+    y: Operand,
+) -> Result<Val, OpFault>
+    ensures { IsGiven result (given_many (builtin_value b) (all_there (value_of x vars.now ∷ value_of y vars.now ∷ []))) }
+{
+    match b {
+        Builtin::Push => push_given(alloc, vars, x, y),
+        _ => seen_two(alloc, b, x.value(vars), y.value(vars)),
+    }
+}
+
+// Built-in functions that look at two values where they are.
+fn seen_two(alloc: Global, b: Builtin, x: Option<&Val>, y: Option<&Val>) -> Result<Val, OpFault>
+    ensures { b ≢ Builtin.Push → IsGiven result (given_many (builtin_value b) (all_there (option_map (λ v. tree v.now) x.entry ∷ option_map (λ v. tree v.now) y.entry ∷ []))) }
 {
     let (Some(x), Some(y)) = (x, y) else {
         return Err(OpFault::Type_);
     };
     match b {
         Builtin::Has => fn_ops::has(alloc, x, y),
-        Builtin::Push => fn_ops::push(alloc, x, y),
         Builtin::Without => fn_ops::without(alloc, x, y),
         Builtin::Range => fn_ops::range(alloc, x, y),
+        _ => Err(OpFault::Type_),
+    }
+}
+
+fn push_given(alloc: Global, vars: &Slots, x: Operand, y: Operand) -> Result<Val, OpFault>
+    ensures { IsGiven result (given_many (builtin_value Builtin.Push) (all_there (value_of x vars.now ∷ value_of y vars.now ∷ []))) }
+{
+    let Some(items) = x.into_value(alloc, vars)? else {
+        return Err(OpFault::Type_);
+    };
+    let Some(v) = y.into_value(alloc, vars)? else {
+        return Err(OpFault::Type_);
+    };
+    pushed(items, v)
+}
+
+/// An array with a value at its end. Nothing is copied.
+pub fn pushed(items: Val, v: Val) -> Result<Val, OpFault>
+    ensures { IsGiven result (ops.push (tree items) (tree v)) }
+{
+    match items {
+        Val::Arr(items) => fn_ops::push_onto(items, v),
         _ => Err(OpFault::Type_),
     }
 }
@@ -295,18 +325,65 @@ fn two_given(alloc: Global, b: Builtin, x: Option<&Val>, y: Option<&Val>) -> Res
 fn three_given(
     alloc: Global,
     b: Builtin,
+    vars: &Slots,
+    x: Operand,
+    y: Operand,
+    z: Operand,
+) -> Result<Val, OpFault>
+    ensures { IsGiven result (given_many (builtin_value b) (all_there (value_of x vars.now ∷ value_of y vars.now ∷ value_of z vars.now ∷ []))) }
+{
+    match b {
+        Builtin::Set => set_given(alloc, vars, x, y, z),
+        _ => seen_three(alloc, b, x.value(vars), y.value(vars), z.value(vars)),
+    }
+}
+
+// Built-in functions that look at three values where they are.
+fn seen_three(
+    alloc: Global,
+    b: Builtin,
     x: Option<&Val>,
     y: Option<&Val>,
     z: Option<&Val>,
 ) -> Result<Val, OpFault>
-    ensures { IsGiven result (given_many (builtin_value b) (all_there (option_map (λ v. tree v.now) x.entry ∷ option_map (λ v. tree v.now) y.entry ∷ option_map (λ v. tree v.now) z.entry ∷ []))) }
+    ensures { b ≢ Builtin.Set → IsGiven result (given_many (builtin_value b) (all_there (option_map (λ v. tree v.now) x.entry ∷ option_map (λ v. tree v.now) y.entry ∷ option_map (λ v. tree v.now) z.entry ∷ []))) }
 {
     let (Some(x), Some(y), Some(z)) = (x, y, z) else {
         return Err(OpFault::Type_);
     };
     match b {
-        Builtin::Set => fn_ops::set(alloc, x, y, z),
         Builtin::Slice => fn_ops::slice(alloc, x, y, z),
+        _ => Err(OpFault::Type_),
+    }
+}
+
+fn set_given(
+    alloc: Global,
+    vars: &Slots,
+    x: Operand,
+    y: Operand,
+    z: Operand,
+) -> Result<Val, OpFault>
+    ensures { IsGiven result (given_many (builtin_value Builtin.Set) (all_there (value_of x vars.now ∷ value_of y vars.now ∷ value_of z vars.now ∷ []))) }
+{
+    let Some(fields) = x.into_value(alloc, vars)? else {
+        return Err(OpFault::Type_);
+    };
+    let Some(name) = y.into_value(alloc, vars)? else {
+        return Err(OpFault::Type_);
+    };
+    let Some(v) = z.into_value(alloc, vars)? else {
+        return Err(OpFault::Type_);
+    };
+    with_field(fields, name, v)
+}
+
+/// An object with a value at a name. Nothing is copied.
+pub fn with_field(fields: Val, name: Val, v: Val) -> Result<Val, OpFault>
+    ensures { IsGiven result (ops.set (tree fields) (tree name) (tree v)) }
+{
+    match (fields, name) {
+        (Val::Obj(fields), Val::Str(name)) => fn_ops::set_in(fields, name, v),
         _ => Err(OpFault::Type_),
     }
 }

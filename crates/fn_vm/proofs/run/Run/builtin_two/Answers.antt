@@ -1,3 +1,4 @@
+use Rattle.std.specs.Prelude.{refl}
 use Rattle.std.proofs.lemmas.Result.{IfOk-weaker}
 use Rattle.fn_tree.specs.Operators.{builtin_value}
 use Rattle.fn_vm.specs.Held.{value_of}
@@ -11,4 +12,4 @@ returns c =
     let vars = s.frame.vars in
     IfOk-weaker c.settle.result _ _ (λ o h. two_given (state_view s) (builtin_value c.args.b) c.args.x c.args.y vars s.frame.stack c.of-second.new.stack c.of-first.new.stack
     (value_of c.of-first.result vars) (value_of c.of-second.result vars) _ _ c.two_given-given.result _
-    (c.of-second.ensures vars) (c.of-first.ensures vars) c.value.ensures c.value-2.ensures c.two_given-given.ensures h) c.settle.ensures
+    (c.of-second.ensures vars) (c.of-first.ensures vars) refl refl c.two_given-given.ensures h) c.settle.ensures

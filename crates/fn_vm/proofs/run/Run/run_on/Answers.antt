@@ -1,9 +1,7 @@
-use Rattle.std.proofs.Common.{Option, subst}
+use Rattle.std.proofs.Common.{◌≡◌, ◌<◌, Option, subst, arith}
 use Rattle.fn_code.specs.CodeMeans.{Follows}
-use Rattle.fn_code.specs.Steps.{step}
-use Rattle.fn_vm.proofs.Following.{follows_step}
-use Rattle.fn_vm.proofs.Machines.{reaches}
-use Rattle.fn_vm.specs.Moves.{Moves}
+use Rattle.fn_vm.proofs.LastUses.{led_on, leads_less, leads_to}
+use Rattle.fn_vm.specs.LastUses.{Leads}
 use Rattle.fn_vm.specs.Views.{state_view, terms_view}
 use Rattle.fn_vm.specs.declared.stop.Stop.{Stop}
 use Rattle.fn_vm.proofs.run.Run.run_on.Goals as goal
@@ -14,8 +12,8 @@ returns-in-Some c k f =
     let code = c.args.code.now in
     let s = state_view c.loop-stop.self in
     let next = state_view c.step.new.self in
-    reaches t code k (step t code s) c.in-Some.stop next (follows_step t code k s (c.loop-stop.invariant k f))
-    (subst (λ (o : Option Stop). Moves (step t code s) o next) c.in-Some.is c.in_ok-stop.ensures)
+    leads_to t code k s c.in-Some.stop next (c.loop-stop.invariant k f)
+    (subst (λ (o : Option Stop). Leads t code s o next) c.in-Some.is c.in_ok-stop.ensures)
 
 pub loop-stop-smaller : goal.loop-stop-smaller
 loop-stop-smaller c =
@@ -23,7 +21,7 @@ loop-stop-smaller c =
     let code = c.args.code.now in
     let s = state_view c.loop-stop.self in
     let next = state_view c.step.new.self in
-    (c.steps_end.ensures t code s next).0 (subst (λ (o : Option Stop). Moves (step t code s) o next) c.in-None.is c.in_ok-stop.ensures)
+    leads_less t code s next (λ a b. (c.steps_end.ensures t code a b).0) (subst (λ (o : Option Stop). Leads t code s o next) c.in-None.is c.in_ok-stop.ensures)
 
 pub loop-stop-preserved : goal.loop-stop-preserved
 loop-stop-preserved c k f =
@@ -31,5 +29,4 @@ loop-stop-preserved c k f =
     let code = c.args.code.now in
     let s = state_view c.loop-stop.self in
     let next = state_view c.step.new.self in
-    subst (λ x. Follows t code k x) (subst (λ (o : Option Stop). Moves (step t code s) o next) c.in-None.is c.in_ok-stop.ensures)
-    (follows_step t code k s (c.loop-stop.invariant k f))
+    led_on t code k s next (c.loop-stop.invariant k f) (subst (λ (o : Option Stop). Leads t code s o next) c.in-None.is c.in_ok-stop.ensures)
