@@ -1,0 +1,80 @@
+-- Changes that are made one after the other.
+use Rattle.std.proofs.Common.{◌≡◌, ℕ, suc, ◌+◌, ◌<◌, ◌≤◌, Bool, true, false, cond, List, [], ◌∷◌, length, refl, sym, ap, ◌∙◌, subst, arith}
+use Rattle.std.specs.Prelude.{◌==◌}
+use Rattle.std.specs.List.{AllByRecursion}
+use Rattle.std.proofs.lemmas.Bool.{and_from, eq-eqb, eqb-true}
+use Rattle.cv_docs.specs.Entries.{AllEarlier, inserted}
+use Rattle.cv_docs.specs.History.{with_all, AreAllowed}
+use Rattle.cv_flat.specs.Listed.{Listed}
+use Rattle.cv_core.specs.Changes.{is_at, changes_at, entry_of, entries_of}
+use Rattle.cv_core.specs.Versioned.{entries_at, spare_at}
+use Rattle.cv_core.specs.declared.change.Change.{Change}
+
+-- the changes have room
+abbrev pub HasRooms : List Change → List (List Listed) → Type 0
+HasRooms cs tables = (table index : ℕ) → length (changes_at table index cs) ≤ spare_at table index tables
+
+-- and they are allowed
+abbrev pub AllAllowed : (ts : ℕ) → List Change → List (List Listed) → Type 0
+AllAllowed ts cs tables = (table index : ℕ) → AreAllowed (entries_of ts (changes_at table index cs)) (entries_at table index tables)
+
+own : (c : Change) → is_at c.table c.index c ≡ true
+own c = and_from (c.table == c.table) (c.index == c.index) (eq-eqb c.table c.table refl) (eq-eqb c.index c.index refl)
+
+first_is : (c : Change) (cs : List Change) → changes_at c.table c.index (c ∷ cs) ≡ c ∷ changes_at c.table c.index cs
+first_is c cs = ap (λ b. cond b (c ∷ changes_at c.table c.index cs) (changes_at c.table c.index cs)) (own c)
+
+module _ (ts : ℕ) (c : Change) (cs : List Change) (tables : List (List Listed)) where
+  pub first_room : HasRooms (c ∷ cs) tables → 0 < spare_at c.table c.index tables
+  first_room h =
+      let some : length (changes_at c.table c.index (c ∷ cs)) ≡ suc (length (changes_at c.table c.index cs)) = ap length (first_is c cs) in
+      let room = h c.table c.index in omega (arith, some, room)
+
+  pub first_later : AllAllowed ts (c ∷ cs) tables → AllEarlier c.key ts (entries_at c.table c.index tables)
+  first_later h = (subst (λ (l : List Change). AreAllowed (entries_of ts l) (entries_at c.table c.index tables)) (first_is c cs) (h c.table c.index)).0
+
+  module _ (after : List (List Listed)) (rows : (table index : ℕ) → entries_at table index after ≡ cond (is_at table index c) (inserted (entry_of ts c) (entries_at table index tables)) (entries_at table index tables)) where
+    pub rest_room : ((table index : ℕ) → spare_at table index tables ≤ spare_at table index after + cond (is_at table index c) 1 0) → HasRooms (c ∷ cs) tables → HasRooms cs after
+    rest_room spare h table index = go (is_at table index c) (spare table index) (h table index)
+      where
+        go : (b : Bool) → spare_at table index tables ≤ spare_at table index after + cond b 1 0
+            → length (cond b (c ∷ changes_at table index cs) (changes_at table index cs)) ≤ spare_at table index tables → length (changes_at table index cs) ≤ spare_at table index after
+        go true s l = omega (arith, s, l)
+        go false s l = omega (arith, s, l)
+
+    pub rest_allowed : AllAllowed ts (c ∷ cs) tables → AllAllowed ts cs after
+    rest_allowed h table index = go (is_at table index c) (rows table index) (h table index)
+      where
+        go : (b : Bool) → entries_at table index after ≡ cond b (inserted (entry_of ts c) (entries_at table index tables)) (entries_at table index tables)
+            → AreAllowed (entries_of ts (cond b (c ∷ changes_at table index cs) (changes_at table index cs))) (entries_at table index tables)
+            → AreAllowed (entries_of ts (changes_at table index cs)) (entries_at table index after)
+        go true e a = subst (AreAllowed (entries_of ts (changes_at table index cs))) (sym e) a.1
+        go false e a = subst (AreAllowed (entries_of ts (changes_at table index cs))) (sym e) a
+
+    pub rest_rows : (table index : ℕ) → with_all (entries_of ts (changes_at table index cs)) (entries_at table index after) ≡ with_all (entries_of ts (changes_at table index (c ∷ cs))) (entries_at table index tables)
+    rest_rows table index = go (is_at table index c) (rows table index)
+      where
+        go : (b : Bool) → entries_at table index after ≡ cond b (inserted (entry_of ts c) (entries_at table index tables)) (entries_at table index tables)
+            → with_all (entries_of ts (changes_at table index cs)) (entries_at table index after) ≡ with_all (entries_of ts (cond b (c ∷ changes_at table index cs) (changes_at table index cs))) (entries_at table index tables)
+        go true e = ap (with_all (entries_of ts (changes_at table index cs))) e
+        go false e = ap (with_all (entries_of ts (changes_at table index cs))) e
+
+-- ---- room for each change so far
+
+pub rooms_stay : (each table index : ℕ) (tables after : List (List Listed)) → each ≤ spare_at table index after
+    → ((t i : ℕ) → ((t ≡ table) → (i ≡ index) → ⊥) → spare_at t i after ≡ spare_at t i tables)
+    → (t i : ℕ) → each ≤ spare_at t i tables → each ≤ spare_at t i after
+rooms_stay each table index tables after here others t i h = go (t == table) refl (i == index) refl
+  where
+    go : (a : Bool) → (t == table) ≡ a → (b : Bool) → (i == index) ≡ b → each ≤ spare_at t i after
+    go true p true q =
+        subst (λ (n : ℕ). each ≤ spare_at n i after) (sym (eqb-true t table p)) (subst (λ (n : ℕ). each ≤ spare_at table n after) (sym (eqb-true i index q)) here)
+    go false p b q = subst (λ (n : ℕ). each ≤ n) (sym (others t i (λ e _. let f : true ≡ false = sym (eq-eqb t table e) ∙ p in cc))) h
+    go true p false q = subst (λ (n : ℕ). each ≤ n) (sym (others t i (λ _ e. let f : true ≡ false = sym (eq-eqb i index e) ∙ q in cc))) h
+
+pub all_stay : (each table index : ℕ) (tables after : List (List Listed)) → each ≤ spare_at table index after
+    → ((t i : ℕ) → ((t ≡ table) → (i ≡ index) → ⊥) → spare_at t i after ≡ spare_at t i tables)
+    → (cs : List Change) → AllByRecursion (λ c. each ≤ spare_at c.table c.index tables) cs → AllByRecursion (λ c. each ≤ spare_at c.table c.index after) cs
+all_stay each table index tables after here others [] h = tt
+all_stay each table index tables after here others (c ∷ cs) h =
+    (rooms_stay each table index tables after here others c.table c.index h.0, all_stay each table index tables after here others cs h.1)

@@ -1,0 +1,8 @@
+use Rattle.std.proofs.Common.{ap}
+use Rattle.cv_core.specs.Cores.{program_of}
+use Rattle.cv_core.proofs.Stood.{solo_reads}
+use Rattle.cv_core.proofs.solo.SoloStoreStore.keep.Goals as goal
+
+pub returns-clause-store : goal.returns-clause-store
+returns-clause-store c =
+    (solo_reads c.args.self.now c.self.inside.core c.keep.new.self c.self.inside.start c.self.view_is c.self.invariant (ap program_of c.keep.ensures.same) (ap (λ s. s.log) c.keep.ensures.same) c.keep.ensures.legal).extends

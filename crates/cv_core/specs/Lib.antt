@@ -1,0 +1,9 @@
+pub mod Changes
+pub mod Cores
+pub mod Ends
+pub mod Kept
+pub mod Ranges
+pub mod Solos
+pub mod Tailing
+pub mod TouchByPlaces
+pub mod Versioned
