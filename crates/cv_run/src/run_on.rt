@@ -1,0 +1,134 @@
+//! A run between two steps: from its start, or from the rows of a read, to the next read or the end.
+ghost use Rattle.std.specs.Prelude.{◌≡◌, ◌+◌, ◌^◌, ◌<◌, ◌≤◌, [], List, length, IfOk, OnOk};
+ghost use Rattle.cv_values.specs.declared.doc.Doc.{Doc as PlainDoc};
+ghost use Rattle.cv_run.specs.Pauses.{Runs, AtRead, Pauses};
+ghost use Rattle.cv_run.specs.Rest.{IsRest};
+ghost use Rattle.cv_store.specs.Reads.{StandsFor, IsReadable, read_from};
+ghost use Rattle.cv_store.specs.Stores.{schema_in, Reads};
+ghost use Rattle.cv_tx.specs.Asks.{IsIndexed};
+ghost use Rattle.cv_tx.specs.Pending.{HasDistinctIds, Under};
+ghost use Rattle.cv_tx.specs.Plans.{plan_of};
+ghost use Rattle.fn_code.specs.declared.code.Code.{Code as PlainCode};
+ghost use Rattle.fn_tree.specs.Course.{Course, Ask as Asked, done, put};
+ghost use Rattle.fn_tree.specs.Documents.{Docs};
+ghost use Rattle.fn_tree.specs.Functions.{Start as PlainStart};
+ghost use Rattle.fn_tree.specs.History.{docs_at};
+ghost use Rattle.fn_tree.specs.Schemas.{schema_of};
+ghost use Rattle.fn_tree.specs.SyntaxTree.{ModuleTree};
+ghost use Rattle.fn_tree.specs.SyntaxViews.{module_view};
+ghost use Rattle.fn_vm.specs.Machines.{WaitsForPut};
+ghost use Rattle.fn_vm.specs.Moves.{Stands};
+ghost use Rattle.fn_vm.specs.Views.{outcome_view};
+
+use crate::pause::Pause;
+use cv_keys::Schema;
+use cv_store::{ReadReq, Store};
+use cv_tx::Tx;
+use cv_values::{Doc, DocId, Memory};
+use fn_code::Code;
+use fn_load::Program;
+use fn_tree::{Ask, Outcome, Put};
+use fn_vm::{Machine, Stop};
+use std::alloc::Global;
+
+// The parts of an id fit their types.
+fn id_fits(_id: DocId)
+    ensures table { _id.table < 2 ^ 16 }
+    ensures session { _id.session < 2 ^ 128 }
+    ensures request { _id.request < 2 ^ 32 }
+    ensures ordinal { _id.ordinal < 2 ^ 16 }
+{}
+
+// Lays a write into the transaction, behind which the machine goes on.
+fn place(machine: &mut Machine, tx: &mut Tx, p: Put) -> Result<(), Memory>
+    ensures ok { (code : PlainCode) (m : ModuleTree) (s : PlainStart) (ds : Docs) (next : Course) → WaitsForPut code machine.old next → IsRest m s ds tx.old.pending tx.old.reads (put p next) → OnOk result (Runs code m s ds machine.new tx.new) }
+    ensures snapshot { tx.new.snapshot ≡ tx.old.snapshot }
+    ensures reads { tx.new.reads ≡ tx.old.reads }
+{
+    id_fits(p.id);
+    tx.put(p)?;
+    machine.placed();
+    Ok(())
+}
+
+// The pause of a run that asks for a read.
+fn at_read(alloc: Global, tx: &Tx, ask: Ask) -> Result<Pause, Memory>
+    ensures { (code : PlainCode) (m : ModuleTree) (s : PlainStart) (ds : Docs) (machine : Machine) (q : Asked) → Stands ask q → AtRead code m s ds machine tx.now q → IfOk result (λ p. Pauses code m s ds machine tx.now p) }
+{
+    let plan = tx.plan(alloc, &ask)?;
+    Ok(Pause::Read { ask, plan })
+}
+
+// The pause of a run that has ended.
+fn at_end(alloc: Global, outcome: Outcome) -> Result<Pause, Memory>
+    ensures { (code : PlainCode) (m : ModuleTree) (s : PlainStart) (ds : Docs) (machine : Machine) (tx : Under) → IsRest m s ds tx.pending tx.reads (done (outcome_view outcome)) → IfOk result (λ p. Pauses code m s ds machine tx p) }
+{
+    let Outcome { reply, cost: _ } = outcome;
+    let told = reply.copy(alloc)?;
+    Ok(Pause::End { reply, told })
+}
+
+/// Goes on to the next read or the end. The writes on the way are laid into the transaction.
+pub fn run_on(
+    alloc: Global,
+    code: &Code,
+    machine: &mut Machine,
+    tx: &mut Tx,
+) -> Result<Pause, Memory>
+    ensures ok { (m : ModuleTree) (s : PlainStart) (ds : Docs) → Runs code.now m s ds machine.old tx.old → IfOk result (λ p. Pauses code.now m s ds machine.new tx.new p) }
+    ensures snapshot { tx.new.snapshot ≡ tx.old.snapshot }
+    ensures reads { tx.new.reads ≡ tx.old.reads }
+{
+    for _ in 0..u64::MAX {
+        match machine.advance(code)? {
+            Stop::Ask(ask) => return at_read(alloc, tx, ask),
+            Stop::Put(p) => place(machine, tx, p)?,
+            Stop::Done(outcome) => return at_end(alloc, outcome),
+        }
+    }
+    Err(Memory)
+}
+
+// Answers the read at which the machine waits, from the rows of the planned store read.
+fn answer_rows(
+    alloc: Global,
+    schema: &Schema,
+    machine: &mut Machine,
+    tx: &mut Tx,
+    ask: &Ask,
+    rows: Vec<Doc>,
+) -> Result<(), Memory>
+    requires { IsIndexed schema.now ask.now }
+    ensures ok { (code : PlainCode) (m : ModuleTree) (s : PlainStart) (ds : Docs) (q : Asked) → schema.now ≡ schema_of m.tables → HasDistinctIds ds → Stands ask.now q → AtRead code m s ds machine.old tx.old q → rows.items ≡ read_from schema.now ds (plan_of tx.old.pending q) → OnOk result (Runs code m s ds machine.new tx.new) }
+    ensures snapshot { tx.new.snapshot ≡ tx.old.snapshot }
+    ensures reads { OnOk result (length tx.new.reads ≡ length tx.old.reads + 1) }
+{
+    let answer = tx.answer(alloc, schema, ask, rows)?;
+    machine.answered(answer);
+    Ok(())
+}
+
+/// Makes the store read of a pause at a read, and goes on with its rows to the next pause.
+pub fn read_on<S: Store>(
+    alloc: Global,
+    program: &Program,
+    store: &mut S,
+    snapshot: u64,
+    machine: &mut Machine,
+    tx: &mut Tx,
+    ask: &Ask,
+    plan: &ReadReq,
+) -> Result<Pause, Memory>
+    requires program { module_view program.now.checked.tree ≡ (S.stands store.old).program }
+    requires seen { snapshot ≤ length (S.stands store.old).seen }
+    requires readable { IsReadable (schema_in (S.stands store.old)) plan.now }
+    requires indexed { IsIndexed (schema_in (S.stands store.old)) ask.now }
+    ensures store { Reads (S.stands store.old) (S.stands store.new) }
+    ensures ok { (s : PlainStart) (q : Asked) → HasDistinctIds (docs_at (S.stands store.old).seen snapshot) → Stands ask.now q → StandsFor plan.now (plan_of tx.old.pending q) → AtRead program.now.code (S.stands store.old).program s (docs_at (S.stands store.old).seen snapshot) machine.old tx.old q → IfOk result (λ p. Pauses program.now.code (S.stands store.old).program s (docs_at (S.stands store.old).seen snapshot) machine.new tx.new p) }
+    ensures snapshot { tx.new.snapshot ≡ tx.old.snapshot }
+    ensures reads { OnOk result (length tx.new.reads ≡ length tx.old.reads + 1) }
+{
+    let rows = store.read(alloc, snapshot, plan)?;
+    answer_rows(alloc, program.checked.schema(), machine, tx, ask, rows)?;
+    run_on(alloc, &program.code, machine, tx)
+}
