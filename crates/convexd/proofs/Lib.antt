@@ -1,16 +1,6 @@
 pub mod Checking
 pub mod Driving
-pub mod Entries
-pub mod EntryTexts
-pub mod Events
-pub mod LineLemmas
-pub mod Logs
-pub mod Outcomes
 pub mod Replayed
 pub mod Replaying
-pub mod ScriptEvents
-pub mod ScriptWords
-pub mod Stages
-pub mod Texts
 pub mod Walked
 pub mod Writes

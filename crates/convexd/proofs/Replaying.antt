@@ -6,7 +6,7 @@ use Rattle.fn_tree.specs.ModuleTexts.{IsModuleText}
 use Rattle.fn_tree.specs.SyntaxTree.{ModuleTree}
 use Rattle.convexd.specs.Answering.{Answers, IsGoodInput, IsPlay, IsRefusedBefore}
 use Rattle.convexd.specs.Check.{IsRefused}
-use Rattle.convexd.specs.Events.{script_of}
+use Rattle.cv_stand.specs.Events.{script_of}
 use Rattle.convexd.specs.Exits.{IsDoneOrFault, TellsOfInput}
 use Rattle.convexd.specs.Lines.{concat}
 use Rattle.convexd.specs.declared.exit.Exit.{Exit}

@@ -1,7 +1,8 @@
 -- How far the search for the line `%%` has come.
 use Rattle.std.proofs.Common.{◌≡◌, ℕ, ◌+◌, ◌<◌, ◌≤◌, List, [], ◌∷◌, ◌++◌, length, Option, None, Some, false, refl, ap, ◌∙◌, arith, append_assoc, append-nil, length-append}
 use Rattle.std.specs.Option.{option_map}
-use Rattle.convexd.specs.Lines.{lines_of, halves, concat, is_mark}
+use Rattle.cv_stand.specs.Lines.{lines_of}
+use Rattle.convexd.specs.Lines.{halves, concat, is_mark}
 
 -- the halves, with these lines before the first
 abbrev pub after : List (List ℕ) → Option (List (List ℕ) × List (List ℕ)) → Option (List (List ℕ) × List (List ℕ))

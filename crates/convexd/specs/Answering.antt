@@ -9,10 +9,11 @@ use Rattle.fn_load.specs.declared.fault.LoadFault.TheVariants as load
 use Rattle.fn_tree.specs.ModuleTexts.{IsModuleText}
 use Rattle.fn_tree.specs.SyntaxTree.{ModuleTree}
 use Rattle.convexd.specs.Check.{IsRefused}
-use Rattle.convexd.specs.Events.{script_of}
-use Rattle.convexd.specs.Lines.{lines_of, halves, concat}
-use Rattle.convexd.specs.Plays.{IsOneLog}
-use Rattle.convexd.specs.Texts.{script_text}
+use Rattle.cv_stand.specs.Events.{script_of}
+use Rattle.cv_stand.specs.Lines.{lines_of}
+use Rattle.convexd.specs.Lines.{halves, concat}
+use Rattle.cv_stand.specs.Plays.{IsOneLog}
+use Rattle.cv_stand.specs.Texts.{script_text}
 use Rattle.convexd.specs.declared.exit.Exit.{Exit}
 use Rattle.convexd.specs.declared.exit.Exit.TheVariants.{Done, Usage, Module, Script as BadLine, Read, Write, Memory, TooLarge}
 use Rattle.convexd.specs.declared.exit.ModuleFault.{ModuleFault}

@@ -1,14 +1,5 @@
 pub mod Answering
 pub mod Check
 pub mod Driven
-pub mod EntryJson
-pub mod EntryLines
-pub mod Events
 pub mod Exits
 pub mod Lines
-pub mod PlayExamples
-pub mod Plays
-pub mod ScriptLine
-pub mod ScriptViews
-pub mod Stages
-pub mod Texts

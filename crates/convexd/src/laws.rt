@@ -1,26 +1,12 @@
 //! Laws of the definitions, each a function with nothing to do.
 ghost use Rattle.std.specs.Prelude.{List, ℕ, Option, ◌≡◌};
-ghost use Rattle.fn_tree.specs.SyntaxTree.{ModuleTree};
 ghost use Rattle.convexd.specs.Answering.{Answers, IsGoodInput};
 ghost use Rattle.convexd.specs.Check.{IsCanonical, Checks};
-ghost use Rattle.convexd.specs.Events.{Event};
 ghost use Rattle.convexd.specs.Exits.{IsDoneOrFault, TellsOfInput};
-ghost use Rattle.convexd.specs.PlayExamples.{IsWorkedPlay};
-ghost use Rattle.convexd.specs.Plays.{IsOneLog};
 ghost use Rattle.convexd.specs.declared.exit.Exit.{Exit};
 
 use fn_syntax::one_fault;
 use fn_tree::at_most_one_module;
-
-/// What events play is one log: a legal history, told reply by reply.
-pub fn scripts_make_one_log()
-    ensures { (m : ModuleTree) (events : List (ℕ × Event)) → IsOneLog m events }
-{}
-
-/// The definitions of a script, computed on calls of a mutation and of a query.
-pub fn worked_plays()
-    ensures { IsWorkedPlay }
-{}
 
 /// A good input is answered by Done, or by a fault that has a cause of its own.
 pub fn good_inputs_end()

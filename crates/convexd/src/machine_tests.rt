@@ -14,7 +14,7 @@ helper ends(x) { x + 1; }
 mutation m:f() { ";
 
 // The bodies of `m:f`, over three documents with n = 1, 2 and 3.
-const BODIES: [&str; 34] = [
+const BODIES: [&str; 39] = [
     "return 1 + 2 * 3 - 8 / 3 % 2;",
     "return [\"a\" + \"b\", -1, !true, null, {k: 1, j: false}];",
     "return [false && 1 == 1, true || false, 1 < 2, 2 <= 1, \"a\" > \"b\", 1 >= 1, 1 != 2];",
@@ -35,6 +35,11 @@ const BODIES: [&str; 34] = [
     "1 + 1;",
     "let a = push([1], 2); return [a[1], len(a), slice(a, 0, 1), range(2, 4)];",
     "let o = set({b: 1}, \"a\", 2); return [o.a, o[\"b\"], keys(o), has(o, \"c\"), without(o, \"b\"), show(7)];",
+    "let a = [1]; a = push(a, 2); a = push(a, len(a)); a = push(a, a); return a;",
+    "let o = {}; let n = \"x\"; o = set(o, n, 1); o = set(o, n, o); o = set(o, \"y\", n); return [o, n];",
+    "let a = 1; a = push(a, 2); return a;",
+    "let a = [1]; let b = [2]; a = push(b, a); return [a, b];",
+    "let o = {}; o = set(o, \"$x\", 1); return o;",
     "return [1][1];",
     "return {a: 1}.b;",
     "return count(\"t\");",

@@ -8,7 +8,6 @@ ghost use Rattle.convexd.specs.Exits.{status_of};
 mod check;
 #[cfg(test)]
 mod check_tests;
-mod entry_json;
 #[cfg(test)]
 mod error_tests;
 mod exit;
@@ -17,13 +16,7 @@ mod lines;
 mod machine_run;
 #[cfg(test)]
 mod machine_tests;
-mod play_events;
 mod replay;
-mod script;
-mod script_reader;
-#[cfg(test)]
-mod script_tests;
-mod stage;
 #[cfg(test)]
 mod tests;
 
@@ -32,15 +25,10 @@ use cv_outside::{StdSink, StdSource};
 pub use exit::{Exit, ModuleFault};
 pub use laws::{
     accepted_modules_end, answers_exclude_each_other, checks_exclude_each_other, good_inputs_end,
-    scripts_make_one_log, worked_plays,
 };
-pub use lines::{Parts, cut, line_text, split_line};
+pub use lines::{Parts, cut};
 pub use machine_run::run_call;
-pub use play_events::{PlayFault, play_script};
 pub use replay::replay_main;
-pub use script::{Event, Script};
-pub use script_reader::read_script;
-pub use stage::{Stage, record_call};
 use std::process::ExitCode;
 use std::{env, io};
 

@@ -7,9 +7,8 @@ ghost use Rattle.convexd.specs.Answering.{replay_words, refusal_of, Answers};
 
 use crate::exit::{Exit, ModuleFault};
 use crate::lines::cut;
-use crate::play_events::{PlayFault, play_script};
-use crate::script_reader::read_script;
 use cv_outside::{ReadFault, Sink, Source, read_whole};
+use cv_stand::{PlayFault, play_script, read_script, scripts_make_one_log};
 use fn_load::{LoadFault, load};
 use std::alloc::Global;
 
@@ -62,11 +61,12 @@ fn replay_input<O: Sink>(alloc: Global, input: &[u8], out: &mut O) -> Exit
     let Ok(script) = read_script(alloc, parts.script, parts.line) else {
         return Exit::Memory;
     };
+    scripts_make_one_log();
     match play_script(alloc, &program, &script, out) {
-        Ok(()) => Exit::Done,
-        Err(PlayFault::Script { line }) => Exit::Script { line },
+        Ok(None) => Exit::Done,
+        Ok(Some(line)) => Exit::Script { line },
         Err(PlayFault::Write) => Exit::Write,
-        Err(PlayFault::Memory) => Exit::Memory,
+        Err(PlayFault::Script | PlayFault::Memory) => Exit::Memory,
     }
 }
 

@@ -1,0 +1,12 @@
+pub mod Entries
+pub mod EntryTexts
+pub mod Events
+pub mod LineLemmas
+pub mod Logs
+pub mod Outcomes
+pub mod Playing
+pub mod ScriptEvents
+pub mod ScriptWords
+pub mod Texts
+pub mod Turns
+pub mod Writes

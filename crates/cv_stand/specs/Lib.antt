@@ -1,0 +1,11 @@
+pub mod EntryJson
+pub mod EntryLines
+pub mod Events
+pub mod Lines
+pub mod PlayExamples
+pub mod Plays
+pub mod ScriptLine
+pub mod ScriptViews
+pub mod Stands
+pub mod Texts
+pub mod Underway

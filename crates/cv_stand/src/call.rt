@@ -1,0 +1,56 @@
+//! A call of a mutation, played to its end.
+ghost use Rattle.std.specs.Prelude.{◌≡◌, None, IfOk, OnErr};
+ghost use Rattle.cv_run.specs.Unders.{under_job};
+ghost use Rattle.fn_tree.specs.SyntaxViews.{module_view};
+ghost use Rattle.cv_stand.specs.Underway.{InCall, IsPlayed, Stepped};
+
+use cv_core::SoloStore;
+use cv_run::RunJob;
+use cv_store::{Job, JobWent, Runs};
+use cv_values::Memory;
+use fn_load::Program;
+use fn_tree::{Call, Reply};
+use std::alloc::Global;
+
+// One step of a call's job; after the last one the timestamp and the reply of the entry of its request.
+fn step_call(
+    alloc: Global,
+    program: &Program,
+    store: &mut SoloStore,
+    job: &mut RunJob,
+    call: &Call,
+    runs: &mut Runs,
+) -> Result<Option<(u64, Reply)>, Memory>
+    requires { InCall (module_view program.now.checked.tree) call.now store.old (under_job job.old) }
+    ensures ok { IfOk result (λ r. Stepped (module_view program.now.checked.tree) call.entry.now store.old store.new (under_job job.old) (under_job job.new) r) }
+    ensures start { OnErr result (store.new.start ≡ store.old.start) }
+    ensures under { OnErr result (under_job job.new ≡ None) }
+{
+    match job.step(alloc, program, store, call, runs)? {
+        JobWent::Done { ts, reply } => Ok(Some((ts, reply))),
+        JobWent::Moved | JobWent::SentBack(_) => Ok(None),
+    }
+}
+
+/// Runs a call to its end, unless its session's request has an entry, and gives the timestamp and the
+/// reply of that entry. It costs the run of the call.
+pub fn play_out(
+    alloc: Global,
+    program: &Program,
+    store: &mut SoloStore,
+    job: &mut RunJob,
+    call: &Call,
+    runs: &mut Runs,
+) -> Result<(u64, Reply), Memory>
+    requires call { InCall (module_view program.now.checked.tree) call.now store.old (under_job job.old) }
+    requires begin { under_job job.old ≡ None }
+    ensures ok { IfOk result (λ r. IsPlayed (module_view program.now.checked.tree) call.entry.now store.old store.new r.0 r.1) }
+    ensures start { store.new.start ≡ store.old.start }
+    ensures under { under_job job.new ≡ None }
+{
+    loop {
+        if let Some(played) = step_call(alloc, program, store, job, call, runs)? {
+            return Ok(played);
+        }
+    }
+}

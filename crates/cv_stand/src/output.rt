@@ -1,0 +1,111 @@
+//! The lines that tell replies and entries.
+ghost use Rattle.std.specs.Prelude.{◌≡◌, ◌≢◌, ◌⊎◌, ◌≤◌, ◌∷◌, [], IfOk, IfErr, OnOk, OnErr, string_bytes};
+ghost use Rattle.std.specs.Io.KnownBytes.{Appends};
+ghost use Rattle.cv_outside.specs.Causes.{AppendsPart, Rose};
+ghost use Rattle.cv_values.specs.Trees.{tree};
+ghost use Rattle.fn_tree.specs.Course.{gives, failed};
+ghost use Rattle.fn_tree.specs.EntryViews.{reply_view};
+ghost use Rattle.cv_stand.specs.EntryLines.{entry_lines, reply_json, reply_line};
+ghost use Rattle.cv_stand.specs.Texts.{with_feeds};
+ghost use Rattle.cv_stand.specs.declared.output.PlayFault.TheVariants.{Memory as MemoryFault};
+
+use crate::entry_json::entry_text;
+use cv_core::Core;
+use cv_json::to_json;
+use cv_outside::{Sink, write_whole};
+use cv_values::{Memory, Text, Val};
+use fn_tree::Reply;
+use serde_json::Value;
+use std::alloc::Global;
+
+/// Why an event wasn't played.
+#[derive(Clone, Copy, Debug, PartialEq, Eq)]
+pub enum PlayFault {
+    /// The event's line isn't allowed now.
+    Script,
+    /// A write failed.
+    Write,
+    /// There was no memory.
+    Memory,
+}
+
+impl From<Memory> for PlayFault {
+    ghost from_gives = { λ _ e. e ≡ MemoryFault };
+
+    fn from(_: Memory) -> Self {
+        PlayFault::Memory
+    }
+}
+
+fn value_json(alloc: Global, value: &Val) -> Result<String, Memory>
+    ensures { IfOk result (λ s. string_bytes s ≡ reply_json (gives (tree value.now))) }
+{
+    let json = to_json(alloc, value)?;
+    let Ok(json) = json.to_string(alloc) else {
+        return Err(Memory);
+    };
+    Ok(format!(in alloc; "ok {json}")?)
+}
+
+fn error_json(alloc: Global, why: &Text) -> Result<String, Memory>
+    ensures { IfOk result (λ s. string_bytes s ≡ reply_json (failed why.now)) }
+{
+    let why = Value::String(String::from_str(alloc, why.as_str())?);
+    let Ok(json) = why.to_string(alloc) else {
+        return Err(Memory);
+    };
+    Ok(format!(in alloc; "error {json}")?)
+}
+
+/// The line that tells the reply of an entry with this timestamp, without its line feed.
+pub(crate) fn reply_text(alloc: Global, ts: u64, reply: &Reply) -> Result<String, Memory>
+    ensures { IfOk result (λ s. string_bytes s ≡ reply_line ts (reply_view reply.now)) }
+{
+    let json = match reply {
+        Reply::Value(value) => value_json(alloc, value)?,
+        Reply::Failed(why) => error_json(alloc, why)?,
+    };
+    Ok(format!(in alloc; "reply {ts} {json}")?)
+}
+
+/// Writes a line with its line feed.
+pub(crate) fn write_line<K: Sink>(out: &mut K, line: String) -> Result<(), PlayFault>
+    ensures ok { OnOk result (Appends (K.held out.old) (K.held out.new) (with_feeds (string_bytes line ∷ []))) }
+    ensures err { OnErr result (AppendsPart (K.held out.old) (K.held out.new) (with_feeds (string_bytes line ∷ []))) }
+    ensures fault { IfErr result (λ e. (e ≡ PlayFault.Write) ⊎ (e ≡ PlayFault.Memory)) }
+    ensures write { result ≡ Err PlayFault.Write → Rose (K.faults out.old) (K.faults out.new) }
+    ensures kept { result ≢ Err PlayFault.Write → K.faults out.new ≡ K.faults out.old }
+    ensures later { K.faults out.old ≤ K.faults out.new }
+{
+    let mut text = line;
+    if text.push('\n').is_err() {
+        return Err(PlayFault::Memory);
+    }
+    match write_whole(out, text.as_bytes()) {
+        Ok(()) => Ok(()),
+        Err(_) => Err(PlayFault::Write),
+    }
+}
+
+/// Tells the entries of a log, one at a time.
+pub(crate) fn write_entries<K: Sink>(
+    alloc: Global,
+    core: &Core,
+    out: &mut K,
+) -> Result<(), PlayFault>
+    ensures done { OnOk result (Appends (K.held out.old) (K.held out.new) (with_feeds (entry_lines 0 core.now.log))) }
+    ensures part { OnErr result (AppendsPart (K.held out.old) (K.held out.new) (with_feeds (entry_lines 0 core.now.log))) }
+    ensures fault { IfErr result (λ e. (e ≡ PlayFault.Write) ⊎ (e ≡ PlayFault.Memory)) }
+    ensures write { result ≡ Err PlayFault.Write → Rose (K.faults out.old) (K.faults out.new) }
+    ensures kept { result ≢ Err PlayFault.Write → K.faults out.new ≡ K.faults out.old }
+    ensures later { K.faults out.old ≤ K.faults out.new }
+{
+    for i in 0..core.len() {
+        let Some(entry) = core.entry(i + 1) else {
+            return Ok(());
+        };
+        let line = entry_text(alloc, i + 1, entry)?;
+        write_line(out, line)?;
+    }
+    Ok(())
+}
