@@ -9,16 +9,29 @@ here=$(mktemp -d) || exit 1
 trap 'rm -rf "$here"' EXIT
 session=00000000-0000-0000-0000-000000000001
 
-# calls COUNT FUNCTION ARGS: so many lines; %d in the arguments is the line's number
+# calls COUNT FUNCTION ARGS: so many lines; %d in the arguments is the line's number, %f one that falls
 calls() {
     awk -v n="$1" -v f="$2" -v a="$3" -v s="$session" \
-        'BEGIN { for (i = 1; i <= n; i++) { x = a; gsub(/%d/, i, x); printf "call %s %d %s %s\n", s, i, f, x } }'
+        'BEGIN { for (i = 1; i <= n; i++) { x = a; gsub(/%d/, i, x); gsub(/%f/, n - i, x); printf "call %s %d %s %s\n", s, i, f, x } }'
 }
 
-# inserts COUNT INDEXES
+# inserts COUNT INDEXES NUMBER
 inserts() {
     printf 'table t { %s }\nmutation m:put(n) { insert("t", {n: n}); return n; }\n%%%%\n' "$2"
-    calls "$1" m:put '{"n":%d}'
+    calls "$1" m:put "{\"n\":$3}"
+}
+
+# patches COUNT: of one document
+patches() {
+    printf 'table t { index by_n(n); }\nmutation m:make() { return insert("t", {n: 0}); }\nmutation m:set(id, n) { patch(id, {n: n}); return n; }\n%%%%\n'
+    echo "call 00000000-0000-0000-0000-000000000009 1 m:make {}"
+    calls "$1" m:set '{"id":"000000000000000000000000000000000009000000010000","n":%d}'
+}
+
+# pushes COUNT: onto one array, in one call
+pushes() {
+    printf 'mutation e:push(n) { let a = []; for (i in range(0, n)) { a = push(a, i); } return len(a); }\n%%%%\n'
+    echo "call $session 1 e:push {\"n\":$1}"
 }
 
 # scans COUNT: over 1,000 rows
@@ -67,9 +80,12 @@ row() {
 }
 
 printf '%-44s %11s %11s %21s %14s\n' "" "a tenth" "whole" "" "growth"
-row "50,000 inserts" replay 50000 inserts ""
-row "50,000 inserts with a declared index" replay 50000 inserts "index by_n(n);"
+row "50,000 inserts" replay 50000 inserts "" %d
+row "50,000 inserts with a declared index" replay 50000 inserts "index by_n(n);" %d
+row "50,000 inserts, each before the others" replay 50000 inserts "index by_n(n);" %f
+row "20,000 patches of one document" replay 20000 patches
 row "2,000 scans of 1,000 rows" replay 2000 scans
 row "200 loops up to the limit of cost" replay 200 loops
+row "5,000 pushes onto one array" replay 5000 pushes
 row "check of a module of 1,048,576 bytes" check 1048576 module
 row "a script of 60 MB, refused in its last line" replay 60000000 refused
