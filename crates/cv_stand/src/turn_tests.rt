@@ -220,64 +220,65 @@ const GUARD: &str = "call 00000000-0000-0000-0000-000000000001 1 p:guard {\"lo\"
 
 const TAKE_TWO: &str = "call 00000000-0000-0000-0000-000000000001 1 p:two {}";
 
+const TURNS: [Row<'static>; 6] = [
+    // Each turns its own document off, unless the other's is off.
+    Row {
+        module: SKEW,
+        before: &MAKE,
+        first: "call 00000000-0000-0000-0000-000000000001 1 w:off {\"mine\":\"000000000000000000000000000000000009000000010000\",\"other\":\"000000000000000000000000000000000009000000020000\"}",
+        second: "call 00000000-0000-0000-0000-000000000002 1 w:off {\"mine\":\"000000000000000000000000000000000009000000020000\",\"other\":\"000000000000000000000000000000000009000000010000\"}",
+        turns: "11122212222",
+        text: "done 3 true;back 3 write 0 old index 0 range 0;done 4 false;",
+    },
+    // A row comes into an empty range, or behind its end.
+    Row {
+        module: ROWS,
+        before: &[],
+        first: GUARD,
+        second: "call 00000000-0000-0000-0000-000000000002 1 p:put {\"n\":15}",
+        turns: "11221111",
+        text: "done 1 \"000000000000000000000000000000000002000000010000\";back 1 write 0 new index 2 range 0;done 2 {\"$integer\":\"AQAAAAAAAAA=\"};",
+    },
+    Row {
+        module: ROWS,
+        before: &[],
+        first: GUARD,
+        second: "call 00000000-0000-0000-0000-000000000002 1 p:put {\"n\":20}",
+        turns: "11221",
+        text: "done 1 \"000000000000000000000000000000000002000000010000\";done 2 {\"$integer\":\"AAAAAAAAAAA=\"};",
+    },
+    // A scan that was cut after two rows: the third changes behind them, the second changes, the third
+    // comes before them.
+    Row {
+        module: ROWS,
+        before: &THREE,
+        first: TAKE_TWO,
+        second: "call 00000000-0000-0000-0000-000000000002 1 p:set {\"id\":\"000000000000000000000000000000000009000000030000\",\"n\":5}",
+        turns: "112221",
+        text: "done 4 {\"$integer\":\"BQAAAAAAAAA=\"};done 5 {\"$integer\":\"AgAAAAAAAAA=\"};",
+    },
+    Row {
+        module: ROWS,
+        before: &THREE,
+        first: TAKE_TWO,
+        second: "call 00000000-0000-0000-0000-000000000002 1 p:set {\"id\":\"000000000000000000000000000000000009000000020000\",\"n\":5}",
+        turns: "112221",
+        text: "done 4 {\"$integer\":\"BQAAAAAAAAA=\"};back 4 write 0 old index 2 range 0;",
+    },
+    Row {
+        module: ROWS,
+        before: &THREE,
+        first: TAKE_TWO,
+        second: "call 00000000-0000-0000-0000-000000000002 1 p:set {\"id\":\"000000000000000000000000000000000009000000030000\",\"n\":0}",
+        turns: "112221",
+        text: "done 4 {\"$integer\":\"AAAAAAAAAAA=\"};back 4 write 0 new index 2 range 0;",
+    },
+];
+
 #[test]
 fn jobs_by_turns(rt: HostRuntime) -> Result<(), Fail> {
     let alloc = rt.alloc();
-    let rows = [
-        // Each turns its own document off, unless the other's is off.
-        Row {
-            module: SKEW,
-            before: &MAKE,
-            first: "call 00000000-0000-0000-0000-000000000001 1 w:off {\"mine\":\"000000000000000000000000000000000009000000010000\",\"other\":\"000000000000000000000000000000000009000000020000\"}",
-            second: "call 00000000-0000-0000-0000-000000000002 1 w:off {\"mine\":\"000000000000000000000000000000000009000000020000\",\"other\":\"000000000000000000000000000000000009000000010000\"}",
-            turns: "11122212222",
-            text: "done 3 true;back 3 write 0 old index 0 range 0;done 4 false;",
-        },
-        // A row comes into an empty range, or behind its end.
-        Row {
-            module: ROWS,
-            before: &[],
-            first: GUARD,
-            second: "call 00000000-0000-0000-0000-000000000002 1 p:put {\"n\":15}",
-            turns: "11221111",
-            text: "done 1 \"000000000000000000000000000000000002000000010000\";back 1 write 0 new index 2 range 0;done 2 {\"$integer\":\"AQAAAAAAAAA=\"};",
-        },
-        Row {
-            module: ROWS,
-            before: &[],
-            first: GUARD,
-            second: "call 00000000-0000-0000-0000-000000000002 1 p:put {\"n\":20}",
-            turns: "11221",
-            text: "done 1 \"000000000000000000000000000000000002000000010000\";done 2 {\"$integer\":\"AAAAAAAAAAA=\"};",
-        },
-        // A scan that was cut after two rows: the third changes behind them, the second changes, the third
-        // comes before them.
-        Row {
-            module: ROWS,
-            before: &THREE,
-            first: TAKE_TWO,
-            second: "call 00000000-0000-0000-0000-000000000002 1 p:set {\"id\":\"000000000000000000000000000000000009000000030000\",\"n\":5}",
-            turns: "112221",
-            text: "done 4 {\"$integer\":\"BQAAAAAAAAA=\"};done 5 {\"$integer\":\"AgAAAAAAAAA=\"};",
-        },
-        Row {
-            module: ROWS,
-            before: &THREE,
-            first: TAKE_TWO,
-            second: "call 00000000-0000-0000-0000-000000000002 1 p:set {\"id\":\"000000000000000000000000000000000009000000020000\",\"n\":5}",
-            turns: "112221",
-            text: "done 4 {\"$integer\":\"BQAAAAAAAAA=\"};back 4 write 0 old index 2 range 0;",
-        },
-        Row {
-            module: ROWS,
-            before: &THREE,
-            first: TAKE_TWO,
-            second: "call 00000000-0000-0000-0000-000000000002 1 p:set {\"id\":\"000000000000000000000000000000000009000000030000\",\"n\":0}",
-            turns: "112221",
-            text: "done 4 {\"$integer\":\"AAAAAAAAAAA=\"};back 4 write 0 new index 2 range 0;",
-        },
-    ];
-    for row in rows {
+    for row in TURNS {
         let text = by_turns(
             alloc, row.module, row.before, row.first, row.second, row.turns,
         )?;
