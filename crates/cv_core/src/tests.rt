@@ -3,10 +3,10 @@ use crate::tail::tail_of;
 use crate::{Core, SoloStore};
 use cv_keys::{Index, Schema, Table, Write};
 use cv_log::WriteLog;
-use cv_store::{Begun, ReadReq, Store};
+use cv_store::{Begun, Look, ReadReq, Store};
 use cv_values::{Doc, DocId, Fields, Memory, Seq, Text, Val};
 use fn_check::check;
-use fn_tree::{Call, Entry, Module, Reply};
+use fn_tree::{Call, Entry, Module, Query, Reply};
 use std::alloc::Global;
 use std::test::Fail;
 
@@ -164,6 +164,11 @@ fn a_new_core_has_the_empty_log(rt: HostRuntime) -> Result<(), Fail> {
             .read(alloc, 0, &ReadReq::Get { id: id(1) })?
             .is_empty()
     );
+    let query = Query {
+        udf: Text::of(alloc, "q:none")?,
+        args: Fields::new(alloc),
+    };
+    assert!(rt; matches!(store.look(alloc, &query, 0)?, Look::Miss));
     assert!(rt; store.into_core().len() == 0);
     Ok(())
 }

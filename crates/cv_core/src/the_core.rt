@@ -159,10 +159,12 @@ impl Core {
     }
 
     /// Makes all room for the commit of a proposal and the marks of its entry; where its session's request
-    /// has an entry already, it copies that entry's reply. The log stays as it is.
+    /// has an entry already, it copies that entry's reply. The log and the documents stay as they are.
     pub fn prepare(&mut self, alloc: Global, p: &Proposal) -> Result<Ready, Memory>
         ensures program { self.new.tree ≡ self.old.tree }
         ensures log { self.new.log ≡ self.old.log }
+        ensures docs { self.new.rows.docs ≡ self.old.rows.docs }
+        ensures rows { (table index : ℕ) → entries_at table index self.new.rows.tables ≡ entries_at table index self.old.rows.tables }
         ensures legal { IsLegal (program_of self.new) self.new.log }
         ensures ok { IfOk result (λ r. IsReady self.new p.entry.now r) }
     {

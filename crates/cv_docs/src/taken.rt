@@ -1,5 +1,5 @@
 //! The rows that a scan takes, up to where it stops.
-ghost use Rattle.std.specs.Prelude.{◌≡◌, ◌-◌, ◌<◌, [], ◌∷◌, ◌++◌, List, IsTrue, ◌↔◌, cond, nat_lt, Some, None, OnOk};
+ghost use Rattle.std.specs.Prelude.{◌≡◌, ◌-◌, ◌<◌, [], ◌∷◌, ◌++◌, List, IsTrue, ◌↔◌, cond, nat_lt, Some, None, OnOk, OnErr};
 ghost use Rattle.cv_docs.specs.Cut.{doc_size, cut, ending};
 ghost use Rattle.cv_values.specs.declared.doc.Doc.{Doc as Document};
 
@@ -49,7 +49,8 @@ impl Taken {
     /// Takes a copy of the next document. For want of memory nothing changes.
     pub fn take(&mut self, alloc: Global, doc: &Doc) -> Result<(), Memory>
         requires { 0 < self.old.rows }
-        ensures { OnOk result ((ds : List Document) → ending self.new ds ≡ ending self.old (doc.now ∷ ds)) }
+        ensures ok { OnOk result ((ds : List Document) → ending self.new ds ≡ ending self.old (doc.now ∷ ds)) }
+        ensures err { OnErr result (self.new ≡ self.old) }
     {
         self.docs.push(doc.copy(alloc)?)?;
         match left_after(self.size, doc) {

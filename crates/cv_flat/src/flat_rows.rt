@@ -9,7 +9,7 @@ use std::marker::Model;
 /// The entries of an index in one list, in the order of keys and timestamps.
 ///
 /// - `insert` finds its place by bisection and moves each entry behind it, so its time is proportional
-///   to the number of entries, in the worst case to all.
+///   to the number of these, at worst of all.
 /// - `scan` finds both ends by bisection and looks at the entries between them, old ones too, up to the
 ///   row at which it stops. It copies the documents that it gives and nothing else.
 #[derive(Drop)]
