@@ -1,26 +1,17 @@
 ghost use Rattle.std.specs.Prelude.{◌≡◌, ◌+◌, ◌≢◌, ◌<◌, ◌≤◌, MatchResult, MatchOption, Some, None, IfOk, IfErr, Ok, Err, map, false};
 ghost use Rattle.cv_json.specs.Reads.{read, read_at, read_object, read_items, read_members, special, tagged_value, any_bad_name};
 ghost use Rattle.serde_json.specs.Data.{array};
-ghost use Rattle.cv_values.specs.Sizes.{is_bad_name};
 ghost use Rattle.cv_values.specs.Trees.{tree as plain};
 ghost use Rattle.cv_values.specs.Value.{values_of, members_of};
 ghost use Rattle.serde_json.specs.View.{view, items_view, members_view};
 
 use crate::base64_text::{bytes_of, eight_bytes_of};
 use crate::fault::JsonFault;
-use cv_values::{Bytes, Fields, Text, Val, Vals, size_of};
+use cv_values::{
+    Bytes, Fields, MAX_DEPTH, MAX_ITEMS, MAX_NAMES, MAX_SIZE, Text, Val, Vals, is_bad_name, size_of,
+};
 use serde_json::{Map, Value};
 use std::alloc::Global;
-
-// The limits of a value, as `cv_values` checks them.
-
-const MAX_SIZE: u64 = 1_048_576;
-
-const MAX_DEPTH: u32 = 64;
-
-const MAX_ITEMS: usize = 8192;
-
-const MAX_NAMES: usize = 1024;
 
 /// The value that a JSON tree is the form of, or its first fault.
 ///
@@ -195,18 +186,9 @@ fn any_bad_name(members: &Map<String, Value>) -> bool
     ensures { result ≡ any_bad_name (members_view members.now.entries) }
 {
     for (name, _member) in members.iter() {
-        if is_bad_name(name.as_str()) {
+        if is_bad_name(false, name.as_str()) {
             return true;
         }
     }
     false
-}
-
-fn is_bad_name(name: &str) -> bool
-    ensures { result ≡ is_bad_name false name.now }
-{
-    match name.as_bytes() {
-        [] => true,
-        [first, ..] => *first == b'$',
-    }
 }

@@ -25,13 +25,17 @@ pub enum ValueFault {
     TooLarge,
 }
 
-const MAX_DEPTH: u32 = 64;
+/// How deep a value may nest.
+pub const MAX_DEPTH: u32 = 64;
 
-const MAX_SIZE: u64 = 1_048_576;
+/// The most size units of a value.
+pub const MAX_SIZE: u64 = 1_048_576;
 
-const MAX_ITEMS: usize = 8192;
+/// The most items of an array.
+pub const MAX_ITEMS: usize = 8192;
 
-const MAX_NAMES: usize = 1024;
+/// The most names of an object.
+pub const MAX_NAMES: usize = 1024;
 
 /// Refuses a value by the first of the faults, in the order in which they are declared, each over
 /// the whole value. It goes over the value once for each fault.
@@ -148,17 +152,18 @@ fn fields_have_bad_name(stored: bool, fields: &Fields) -> bool
     ensures { result ≡ members_bad_name stored (members_of fields.now) }
 {
     for (name, v) in fields.as_map() {
-        if is_bad_name(stored, name) || has_bad_name(stored, v) {
+        if is_bad_name(stored, name.as_str()) || has_bad_name(stored, v) {
             return true;
         }
     }
     false
 }
 
-fn is_bad_name(stored: bool, name: &Text) -> bool
+/// Whether a name of an object is empty or begins with `$`; where it is to be stored, also with `_`.
+pub fn is_bad_name(stored: bool, name: &str) -> bool
     ensures { result ≡ is_bad_name stored name.now }
 {
-    match name.as_str().as_bytes() {
+    match name.as_bytes() {
         [] => true,
         [first, ..] => *first == b'$' || (stored && *first == b'_'),
     }

@@ -23,7 +23,10 @@ mod tests;
 mod text;
 mod val;
 
-pub use check::{ValueFault, check_fields, check_value, has_many};
+pub use check::{
+    MAX_DEPTH, MAX_ITEMS, MAX_NAMES, MAX_SIZE, ValueFault, check_fields, check_value, has_many,
+    is_bad_name,
+};
 pub use doc::{Doc, doc_value};
 pub use ids::{DocId, id_text, read_id};
 pub use laws::{equal_where_same, ids_and_their_texts, order_is_total};

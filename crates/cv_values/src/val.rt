@@ -194,6 +194,7 @@ impl Fields {
         ensures ordered { IsStrictlySortedBy (slice_cmp nat_cmp) (keys_of self.now) }
         ensures falls { NestBelow (values result.now) (greatest_member self.now) }
     {
+        // `len` says that the names rise.
         let _ordered = self.inner.len();
         &self.inner
     }

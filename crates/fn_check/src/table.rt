@@ -8,7 +8,7 @@ ghost use Rattle.fn_tree.specs.SyntaxViews.{index_view, table_view};
 
 use crate::fault::{CheckKind, Stop, refuse_if};
 use crate::scope::add_name;
-use cv_values::Text;
+use cv_values::{Text, is_bad_name};
 use fn_tree::{IndexDecl, Named, TableDecl};
 use std::alloc::Global;
 use std::collections::BTreeSet;
@@ -19,21 +19,13 @@ const INDEXES: usize = 32;
 
 const FIELDS: usize = 16;
 
-// Empty, or begun by `_` or `$`.
-fn is_bad_name(name: &Text) -> bool
-    ensures { result ≡ is_bad_name true name.now }
-{
-    match name.as_str().as_bytes() {
-        [] => true,
-        [first, ..] => *first == b'$' || *first == b'_',
-    }
-}
-
 // A bad name, or that of an index that every table has.
 fn is_bad_index(name: &Text) -> bool
     ensures { result ≡ is_bad_index name.now }
 {
-    is_bad_name(name) || name.as_str() == "by_id" || name.as_str() == "by_creation_time"
+    is_bad_name(true, name.as_str())
+        || name.as_str() == "by_id"
+        || name.as_str() == "by_creation_time"
 }
 
 // The kinds of fault of a list of names, and how many names it may have.
@@ -77,7 +69,14 @@ fn check_field(
         again: CheckKind::DuplicateField,
         many: CheckKind::TooManyFields,
     };
-    check_listed(alloc, is_bad_name(&field.text), seen, count, limit, field)
+    check_listed(
+        alloc,
+        is_bad_name(true, field.text.as_str()),
+        seen,
+        count,
+        limit,
+        field,
+    )
 }
 
 fn check_fields(alloc: Global, fields: &[Named]) -> Result<(), Stop>
@@ -141,7 +140,7 @@ fn check_table(
     };
     check_listed(
         alloc,
-        is_bad_name(&table.name.text),
+        is_bad_name(true, table.name.text.as_str()),
         seen,
         count,
         limit,

@@ -5,8 +5,8 @@ ghost use Rattle.cv_values.specs.Value.{array, values_of};
 ghost use Rattle.fn_ops.specs.Operations.{push, slice, range, array_of, integers, count_of, part};
 
 use crate::fault::OpFault;
-use crate::limits::{MAX_ITEMS, made};
-use cv_values::{Memory, Val, Vals};
+use crate::limits::made;
+use cv_values::{MAX_ITEMS, Memory, Val, Vals};
 use std::alloc::Global;
 
 /// The array `a` with `b` at its end. Both are copied whole.

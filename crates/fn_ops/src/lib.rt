@@ -2,9 +2,9 @@
 //!
 //! A call gives a new value, or the first of its faults: `Type_` where an operand is of another kind
 //! than the operation takes, then the faults of the operation itself, then `TooDeep`, `TooMany` and
-//! `TooLarge` where the value that was made passes a limit. `Memory` may come in place of any answer
-//! of a call that says what it copies; the others take no memory. All take an allocator, so that a
-//! caller treats them alike.
+//! `TooLarge` where the value that was made passes a limit. `Memory` may come in place of any answer,
+//! but not from a call that doesn't use its allocator (`_alloc`): it takes no memory. Those have one so
+//! that a caller treats all alike.
 //!
 //! Operands stay as they are, and what goes into the result is copied. [`push_onto`], [`set_in`],
 //! [`array_of`] and [`object_of`] take their parts by value and copy nothing. A value that is made is

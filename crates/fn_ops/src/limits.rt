@@ -8,8 +8,6 @@ use cv_values::{Val, depth_of, has_many, size_of};
 
 const MAX_DEPTH: u32 = 96;
 
-pub(crate) const MAX_ITEMS: usize = 8192;
-
 const MAX_SIZE: u64 = 8_388_608;
 
 /// The value, or the first limit that it passes: nesting of 96, 8,192 items of an array or 1,024 names of

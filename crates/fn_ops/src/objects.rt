@@ -11,7 +11,7 @@ ghost use Rattle.fn_ops.specs.Operations.{set, without, keys, object_of};
 
 use crate::fault::OpFault;
 use crate::limits::made;
-use cv_values::{Fields, Memory, Text, Val, Vals};
+use cv_values::{Fields, Memory, Text, Val, Vals, is_bad_name};
 use std::alloc::Global;
 
 /// The object `a` with the value `c` at the name `b`, whether the name was there or not. The object
@@ -41,7 +41,7 @@ pub fn set_in(mut fields: Fields, name: Text, v: Val) -> Result<Val, OpFault>
     ensures err { IfErr result
         (λ e. e ≢ OpFault.Memory → set (object (members_of fields)) (string name) (tree v) ≡ Err e) }
 {
-    if is_bad_name(&name) {
+    if is_bad_name(false, name.as_str()) {
         return Err(OpFault::BadName);
     }
     drop(fields.insert(name, v)?);
@@ -119,18 +119,9 @@ fn has_bad_name(fields: &Fields) -> bool
     ensures { result ≡ list_any (is_bad_name false) (keys_of fields.now) }
 {
     for (name, _v) in fields.as_map() {
-        if is_bad_name(name) {
+        if is_bad_name(false, name.as_str()) {
             return true;
         }
     }
     false
-}
-
-fn is_bad_name(name: &Text) -> bool
-    ensures { result ≡ is_bad_name false name.now }
-{
-    match name.as_str().as_bytes() {
-        [] => true,
-        [first, ..] => *first == b'$',
-    }
 }
