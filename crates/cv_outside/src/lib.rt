@@ -4,8 +4,7 @@
 //! and a count of faults that never falls. A call answers [`Failed`] only where that count rose in
 //! the call, so no code that is generic over the trait can blame the outside for a fault that did
 //! not come. `MemSource` and `MemSink` stand over memory and fail at chosen calls; `StdSource` and
-//! `StdSink` stand over std's readers and writers, tell no content, and are trusted to pass on what
-//! these give and take.
+//! `StdSink` stand over std's readers and writers, and tell of their bytes what these tell.
 #![tactic(auto)]
 
 mod memory;

@@ -1,5 +1,5 @@
-//! A source and a sink over std's readers and writers, which tell no content.
-ghost use Rattle.std.specs.Prelude.{◌≡◌, None};
+//! A source and a sink over std's readers and writers: what these tell of their bytes, they tell too.
+ghost use Rattle.std.specs.Prelude.{◌≡◌};
 
 use crate::{Failed, Sink, Source};
 use std::io::{Read, Write};
@@ -14,7 +14,8 @@ pub struct StdSource<R> {
 impl<R: Read> StdSource<R> {
     /// The bytes that the reader has left. No fault has come yet.
     pub fn new(reader: R) -> Self
-        ensures { ⟦<StdSource<R> as Source>⟧.faults result ≡ 0 }
+        ensures left { ⟦<StdSource<R> as Source>⟧.left result ≡ R.remaining reader }
+        ensures faults { ⟦<StdSource<R> as Source>⟧.faults result ≡ 0 }
     {
         StdSource {
             inner: reader,
@@ -24,7 +25,7 @@ impl<R: Read> StdSource<R> {
 }
 
 impl<R: Read> Source for StdSource<R> {
-    ghost left = { λ _. None };
+    ghost left = { λ s. R.remaining s.inner };
 
     ghost faults = { λ s. s.faults };
 
@@ -49,7 +50,8 @@ pub struct StdSink<W> {
 impl<W: Write> StdSink<W> {
     /// Bytes that go to the writer. No fault has come yet.
     pub fn new(writer: W) -> Self
-        ensures { ⟦<StdSink<W> as Sink>⟧.faults result ≡ 0 }
+        ensures held { ⟦<StdSink<W> as Sink>⟧.held result ≡ W.contents writer }
+        ensures faults { ⟦<StdSink<W> as Sink>⟧.faults result ≡ 0 }
     {
         StdSink {
             inner: writer,
@@ -59,7 +61,7 @@ impl<W: Write> StdSink<W> {
 }
 
 impl<W: Write> Sink for StdSink<W> {
-    ghost held = { λ _. None };
+    ghost held = { λ s. W.contents s.inner };
 
     ghost faults = { λ s. s.faults };
 
