@@ -22,7 +22,7 @@ use crate::fault::{Fault, failure};
 use crate::operator::given;
 use crate::scan::{Quota, doc_size, passed, rows_at, scan};
 use crate::scope::{index_number, table_number};
-use cv_keys::{Bound, Index, Interval, Range, Schema, interval_of, key_of};
+use cv_keys::{Bound, Index, Interval, Range, Schema, key_of};
 use cv_values::{Doc, DocId, Memory, Text, Val, Vals, doc_value, id_text, read_id};
 use fn_ops::made;
 use fn_tree::{CompareOp, Left};
@@ -356,11 +356,7 @@ fn bounded(
         lower: lower_of(alloc, bounds)?,
         upper: upper_of(alloc, bounds)?,
     };
-    // the index has the fields, so that memory alone can be wanting
-    match interval_of(alloc, schema, &range) {
-        Ok(i) => Ok(Some(i)),
-        Err(_) => Err(Memory),
-    }
+    Ok(Some(range.interval(alloc)?))
 }
 
 /// The interval of a scan, where the schema has the table and the index, with as many fields.

@@ -9,7 +9,7 @@ ghost use Rattle.fn_plain.specs.Scans.{Stands, Scans, part_of, quota_view};
 
 use cv_keys::{Index, Interval, Schema, contains, index_key, keys_keep_order};
 use cv_values::{Doc, Memory, Val, size_of};
-use fn_tree::Left;
+use fn_tree::{Left, READ_ROWS};
 use std::alloc::Global;
 
 /// A quota that a read can pass.
@@ -20,9 +20,6 @@ pub(crate) enum Quota {
     Size,
     Read,
 }
-
-/// The most rows of one read.
-const READ_ROWS: u64 = 8192;
 
 /// What a scan has consumed: its rows, and the interval that they tell of.
 #[derive(Drop)]

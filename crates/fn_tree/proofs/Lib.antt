@@ -11,6 +11,7 @@ pub mod Characters
 pub mod CommitsAreLegal
 pub mod Consumed
 pub mod DeclarationTexts
+pub mod Descents
 pub mod DocumentLemmas
 pub mod EndsInOrder
 pub mod Follows

@@ -1,9 +1,13 @@
--- The start and the end of a run, worked out: which function, with which arguments, and how large a reply.
-use Rattle.std.specs.Prelude.{◌≡◌, pos, Some, None, ℕ, List, [], ◌∷◌, codes}
+-- The start and the end of a run, worked out: which function, with which arguments, how large a reply, and the texts of errors.
+use Rattle.std.specs.Prelude.{◌≡◌, pos, Some, None, ℕ, List, [], ◌∷◌, map, codes}
 use Rattle.cv_values.specs.Value.{string, array, values_of}
+use Rattle.cv_values.specs.declared.check.ValueFault.TheVariants as value_faults
+use Rattle.fn_ops.specs.declared.fault.OpFault.TheVariants as op_faults
+use Rattle.fn_tree.specs.Actions.{op_text, value_text, quota_text}
 use Rattle.fn_tree.specs.ExampleModules.{named, number, of_name, listed, object_at, function, twice, query_does, mutation_does, example, asks, mutates, with_x, gave, ended, x, natural}
 use Rattle.fn_tree.specs.Functions.{Start, mutation_limits, limits_of}
 use Rattle.fn_tree.specs.Run.{Run, run, run_within}
+use Rattle.fn_tree.specs.Scan.{of_cost, of_rows, of_size, of_read}
 use Rattle.fn_tree.specs.SyntaxTree.{expr, insert, evaluate, give_back, ModuleTree}
 use Rattle.fn_tree.specs.declared.syntax.Kind.TheVariants.{Query}
 
@@ -50,3 +54,14 @@ AreWorkedLimits =
     (limits_of None ≡ record { cost = 100000; rows = 16384; size = 8388608; ranges = 1024; writes = 8192; written = 8388608; reply = 1048576 })
     × (limits_of (Some (record { session = 1; request = 1; now = pos 0 }))
     ≡ record { cost = 100000; rows = 16384; size = 8388608; ranges = 4096; writes = 8192; written = 8388608; reply = 1048576 })
+
+-- the text of an operation's fault, of a fault of fields to be stored, and of a quota is its name; that of the rows of one read is the one of an array that is too long
+abbrev pub AreWorkedTexts : Type 0
+AreWorkedTexts =
+    (map op_text (op_faults.Type_ ∷ op_faults.Overflow ∷ op_faults.DivisionByZero ∷ op_faults.NoField ∷ op_faults.OutOfRange ∷ op_faults.BadName
+    ∷ op_faults.TooDeep ∷ op_faults.TooMany ∷ op_faults.TooLarge ∷ [])
+    ≡ codes "TypeError" ∷ codes "Overflow" ∷ codes "DivisionByZero" ∷ codes "NoField" ∷ codes "OutOfRange" ∷ codes "BadName"
+    ∷ codes "TooDeep" ∷ codes "TooMany" ∷ codes "TooLarge" ∷ [])
+    × (map value_text (value_faults.TooDeep ∷ value_faults.TooMany ∷ value_faults.BadName ∷ value_faults.TooLarge ∷ [])
+    ≡ codes "TooDeep" ∷ codes "TooMany" ∷ codes "BadName" ∷ codes "TooLarge" ∷ [])
+    × (map quota_text (of_cost ∷ of_rows ∷ of_size ∷ of_read ∷ []) ≡ codes "CostLimit" ∷ codes "RowLimit" ∷ codes "ReadLimit" ∷ codes "TooMany" ∷ [])

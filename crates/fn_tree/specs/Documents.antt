@@ -31,7 +31,3 @@ with_doc id new ds = and_doc new (without_id id ds)
 abbrev pub applied : List Write → Docs → Docs
 applied [] ds = ds
 applied (w ∷ ws) ds = applied ws (with_doc w.id w.new ds)
-
--- the documents of a table
-abbrev pub table_docs : ℕ → Docs → Docs
-table_docs table ds = filter (λ d. d.id.table == table) ds

@@ -1,12 +1,14 @@
 -- Literals, variables, calls, operators and the moment, worked out: their value, their error, their cost.
-use Rattle.std.specs.Prelude.{◌≡◌, negsuc, true, false, [], ◌∷◌, codes}
+use Rattle.std.specs.Prelude.{◌≡◌, negsuc, Bool, true, false, [], ◌∷◌, codes}
 use Rattle.cv_values.specs.Value.{null, int, boolean, string, bytes}
-use Rattle.fn_tree.specs.ExampleModules.{number, words, of_name, listed, object_at, calls, joined, member_of, query_does, mutation_does, example, asks, mutates, with_x, gave, ended, with_value, IsWorth, HasError, x, minus, opposite, yes, no, greatest, least, one_by_zero, one_field, natural}
-use Rattle.fn_tree.specs.PartExamples.{AreWorkedParts, AreWorkedBuiltins}
-use Rattle.fn_tree.specs.Run.{run}
-use Rattle.fn_tree.specs.SyntaxTree.{expr, nothing, group, now, give_back}
+use Rattle.fn_tree.specs.ExampleModules.{number, words, of_name, listed, object_at, calls, joined, member_of, function, twice, query_does, mutation_does, example, asks, mutates, with_x, gave, ended, with_value, IsWorth, HasError, x, minus, opposite, yes, no, greatest, least, one_by_zero, one_field, natural, late}
+use Rattle.fn_tree.specs.PartExamples.{no_field, AreWorkedParts, AreWorkedBuiltins}
+use Rattle.fn_tree.specs.Run.{Run, run}
+use Rattle.fn_tree.specs.SyntaxTree.{Expr, expr, nothing, group, now, give_back, FunctionTree}
 use Rattle.fn_tree.specs.declared.syntax.BinaryOp.TheVariants.{Or, And, Compare, Add, Subtract, Multiply, Divide, Remainder}
+use Rattle.fn_tree.specs.declared.syntax.CompareOp.{CompareOp}
 use Rattle.fn_tree.specs.declared.syntax.CompareOp.TheVariants.{Equal, NotEqual, Less, LessEqual, Greater, GreaterEqual}
+use Rattle.fn_tree.specs.declared.syntax.Kind.TheVariants.{Helper}
 
 -- literals, variables and round brackets
 abbrev pub AreWorkedLiterals : Type 0
@@ -21,7 +23,14 @@ AreWorkedLiterals =
     × HasError (of_name (codes "y")) (codes "TypeError")
     × HasError (expr 0 (group one_by_zero)) (codes "DivisionByZero")
 
--- a call costs one unit when its arguments are there; a helper sees only those before it
+-- helper h(x) { .. }, behind `twice` and before `late`, and the query that calls it with 7
+abbrev helper_does : Expr → FunctionTree
+helper_does e = function Helper (codes "h") (codes "x" ∷ []) (give_back e ∷ [])
+
+abbrev from_helper : Expr → Run
+from_helper e = run (example (twice ∷ helper_does e ∷ late ∷ query_does (give_back (calls (codes "h") (x ∷ [])) ∷ []) ∷ [])) (asks (codes "q") (with_x (natural 7))) []
+
+-- a call costs one unit when its arguments are there; a helper sees only those before it, and not itself
 abbrev pub AreWorkedCalls : Type 0
 AreWorkedCalls =
     (with_value (natural 7) (calls (codes "twice") (x ∷ [])) ≡ gave (natural 14) 3)
@@ -29,6 +38,11 @@ AreWorkedCalls =
     × (with_value (natural 7) (calls (codes "twice") (yes ∷ [])) ≡ ended (codes "TypeError") 3)
     × (with_value (natural 7) (calls (codes "late") []) ≡ ended (codes "TypeError") 2)
     × HasError (calls (codes "twice") (one_by_zero ∷ [])) (codes "DivisionByZero")
+    × HasError (calls (codes "twice") (one_by_zero ∷ no_field ∷ [])) (codes "DivisionByZero")
+    × HasError (calls (codes "twice") (no_field ∷ one_by_zero ∷ [])) (codes "NoField")
+    × (from_helper (calls (codes "twice") (x ∷ [])) ≡ gave (natural 14) 5)
+    × (from_helper (calls (codes "late") []) ≡ ended (codes "TypeError") 4)
+    × (from_helper (calls (codes "h") (x ∷ [])) ≡ ended (codes "TypeError") 4)
     × (with_value (natural 7) (calls (codes "twice") []) ≡ ended (codes "TypeError") 2)
     × (with_value (natural 7) (calls (codes "twice") (x ∷ x ∷ [])) ≡ ended (codes "TypeError") 2)
     × (run (example (mutation_does [] ∷ query_does (give_back (calls (codes "m") (x ∷ [])) ∷ []) ∷ [])) (asks (codes "q") (with_x null)) [] ≡ ended (codes "TypeError") 2)
@@ -62,6 +76,22 @@ AreWorkedSums =
     × IsWorth (opposite yes) (boolean false)
     × HasError (opposite x) (codes "TypeError")
 
+-- what a comparison says where the left side is less than, equal to and greater than the right one
+abbrev Says : CompareOp → (less same more : Bool) → Type 0
+Says op less same more =
+    IsWorth (joined (Compare op) (number 6) x) (boolean less)
+    × IsWorth (joined (Compare op) x x) (boolean same)
+    × IsWorth (joined (Compare op) (number 8) x) (boolean more)
+
+abbrev pub AreWorkedOrders : Type 0
+AreWorkedOrders =
+    Says Equal false true false
+    × Says NotEqual true false true
+    × Says Less true false false
+    × Says LessEqual true true false
+    × Says Greater false false true
+    × Says GreaterEqual false true true
+
 -- any two values are compared, by kind first
 abbrev pub AreWorkedComparisons : Type 0
 AreWorkedComparisons =
@@ -77,6 +107,7 @@ AreWorkedComparisons =
     × IsWorth (joined (Compare GreaterEqual) (number 6) x) (boolean false)
     × (with_value (bytes (9 ∷ [])) (joined (Compare Greater) x (words (codes "a"))) ≡ gave (boolean true) 1)
     × HasError (joined (Compare Equal) yes one_by_zero) (codes "DivisionByZero")
+    × HasError (joined (Compare Equal) no_field one_by_zero) (codes "NoField")
 
 -- the right side is left out where the left one decides
 abbrev pub AreWorkedTruths : Type 0
@@ -101,4 +132,4 @@ AreWorkedMoments =
     × HasError (expr 0 now) (codes "TypeError")
 
 abbrev pub IsWorkedExpressions : Type 0
-IsWorkedExpressions = AreWorkedLiterals × AreWorkedCalls × AreWorkedSums × AreWorkedComparisons × AreWorkedTruths × AreWorkedMoments × AreWorkedParts × AreWorkedBuiltins
+IsWorkedExpressions = AreWorkedLiterals × AreWorkedCalls × AreWorkedSums × AreWorkedOrders × AreWorkedComparisons × AreWorkedTruths × AreWorkedMoments × AreWorkedParts × AreWorkedBuiltins

@@ -48,12 +48,23 @@ second = numbered 2 20
 abbrev raised : Doc
 raised = record { id = id_of 1 0; creation = pos 10; fields = (codes "v", natural 9) ∷ [] }
 
+-- the entry that inserts the first, and one that counts
+abbrev added : Entry
+added = logged 1 (codes "add") (natural 1) (gives (natural 1)) (record { id = id_of 1 0; old = None; new = Some first } ∷ [])
+
+abbrev sized : (request n : ℕ) → Entry
+sized request n = logged request (codes "size") null (gives (natural n)) []
+
+-- the same by another session
+abbrev of_session : ℕ → Entry → Entry
+of_session session e = record e { call = record e.call { session = session } }
+
 abbrev log : History
 log =
-    logged 1 (codes "add") (natural 1) (gives (natural 1)) (record { id = id_of 1 0; old = None; new = Some first } ∷ [])
+    added
     ∷ logged 2 (codes "add") (natural 2) (gives (natural 2)) (record { id = id_of 2 0; old = None; new = Some second } ∷ [])
     ∷ logged 3 (codes "no") (natural 3) (failed (codes "Thrown: no")) []
-    ∷ logged 4 (codes "size") null (gives (natural 2)) []
+    ∷ sized 4 2
     ∷ logged 5 (codes "raise") (string (text_of_id 1 0)) (gives null) (record { id = id_of 1 0; old = Some first; new = Some raised } ∷ [])
     ∷ logged 6 (codes "drop") (string (text_of_id 2 0)) (gives null) (record { id = id_of 2 0; old = Some second; new = None } ∷ [])
     ∷ logged 7 (codes "raise") (string (text_of_id 2 0)) (failed (codes "NoDocument")) []
@@ -63,6 +74,15 @@ log =
 -- each entry is the run of its call on the documents before it, and each request stands once
 abbrev pub AreWorkedEntries : Type 0
 AreWorkedEntries = IsLegal program log
+
+-- one request number of two sessions is legal; not legal: a request of one session stands twice, a reply is another, a write is missing, an entry stands before the one whose document it counts
+abbrev pub AreWorkedRefusals : Type 0
+AreWorkedRefusals =
+    IsLegal program (added ∷ of_session 2 (sized 1 1) ∷ [])
+    × (IsLegal program (sized 1 0 ∷ sized 2 0 ∷ sized 3 0 ∷ sized 2 0 ∷ []) → ⊥)
+    × (IsLegal program (sized 2 1 ∷ []) → ⊥)
+    × (IsLegal program (logged 1 (codes "add") (natural 1) (gives (natural 1)) [] ∷ []) → ⊥)
+    × (IsLegal program (sized 2 1 ∷ added ∷ []) → ⊥)
 
 -- the documents after so many entries
 abbrev pub AreWorkedDocuments : Type 0
@@ -105,4 +125,4 @@ AreWorkedAnswers =
     × (answer_at program (codes "add") (with_x null) log 7 ≡ failed (codes "UnknownFunction"))
 
 abbrev pub IsWorkedHistories : Type 0
-IsWorkedHistories = AreWorkedEntries × AreWorkedDocuments × AreWorkedAnswers
+IsWorkedHistories = AreWorkedEntries × AreWorkedRefusals × AreWorkedDocuments × AreWorkedAnswers

@@ -2,20 +2,28 @@
 use Rattle.std.specs.Prelude.{◌≡◌, negsuc, true, false, [], ◌∷◌, codes}
 use Rattle.cv_values.specs.Value.{int, boolean, string, bytes, array, object, values_of, members_of}
 use Rattle.fn_tree.specs.ExampleModules.{number, words, listed, object_with, object_at, built, member_of, gave, with_value, IsWorth, HasError, x, minus, yes, one_by_zero, one_field, natural, nested, nested_value}
-use Rattle.fn_tree.specs.SyntaxTree.{expr, item}
+use Rattle.fn_tree.specs.SyntaxTree.{Expr, expr, item}
 use Rattle.fn_tree.specs.declared.syntax.Builtin.TheVariants.{Len, Has, Push, Set, Without, Slice, Range, Show, Keys}
 
--- arrays, objects and their parts
+-- {a: 1}.b, whose error is another than that of 1 / 0
+abbrev pub no_field : Expr
+no_field = member_of one_field (codes "b")
+
+-- arrays, objects and their parts; each is made from left to right
 abbrev pub AreWorkedParts : Type 0
 AreWorkedParts =
     IsWorth (listed (number 1 ∷ words (codes "a") ∷ [])) (array (values_of (natural 1 ∷ string (codes "a") ∷ [])))
     × IsWorth (listed []) (array (values_of []))
     × HasError (listed (number 1 ∷ one_by_zero ∷ [])) (codes "DivisionByZero")
+    × HasError (listed (one_by_zero ∷ no_field ∷ [])) (codes "DivisionByZero")
+    × HasError (listed (no_field ∷ one_by_zero ∷ [])) (codes "NoField")
     × IsWorth (object_with ((codes "b", number 1) ∷ (codes "_a", x) ∷ [])) (object (members_of ((codes "_a", natural 7) ∷ (codes "b", natural 1) ∷ [])))
     × IsWorth (object_with []) (object (members_of []))
     × HasError (object_at (codes "$a") x) (codes "BadName")
     × HasError (object_at [] x) (codes "BadName")
     × HasError (object_with ((codes "$a", x) ∷ (codes "b", one_by_zero) ∷ [])) (codes "DivisionByZero")
+    × HasError (object_with ((codes "b", one_by_zero) ∷ (codes "a", no_field) ∷ [])) (codes "DivisionByZero")
+    × HasError (object_with ((codes "b", no_field) ∷ (codes "a", one_by_zero) ∷ [])) (codes "NoField")
     × IsWorth (nested 96) (nested_value 96)
     × HasError (nested 97) (codes "TooDeep")
     × HasError (object_at (codes "$a") (nested 96)) (codes "BadName")
@@ -30,6 +38,7 @@ AreWorkedParts =
     × HasError (expr 0 (item (listed (x ∷ [])) (minus (number 1)))) (codes "OutOfRange")
     × HasError (expr 0 (item (listed (x ∷ [])) (words (codes "a")))) (codes "TypeError")
     × HasError (expr 0 (item x one_by_zero)) (codes "DivisionByZero")
+    × HasError (expr 0 (item no_field one_by_zero)) (codes "NoField")
 
 -- operations that are called by a word
 abbrev pub AreWorkedBuiltins : Type 0
@@ -44,6 +53,7 @@ AreWorkedBuiltins =
     × HasError (built Has (one_field ∷ x ∷ [])) (codes "TypeError")
     × IsWorth (built Push (listed (x ∷ []) ∷ yes ∷ [])) (array (values_of (natural 7 ∷ boolean true ∷ [])))
     × HasError (built Push (x ∷ x ∷ [])) (codes "TypeError")
+    × HasError (built Push (no_field ∷ one_by_zero ∷ [])) (codes "NoField")
     × HasError (built Push (listed [] ∷ nested 96 ∷ [])) (codes "TooDeep")
     × IsWorth (built Set (one_field ∷ words (codes "_b") ∷ x ∷ [])) (object (members_of ((codes "_b", natural 7) ∷ (codes "a", natural 1) ∷ [])))
     × IsWorth (built Set (one_field ∷ words (codes "a") ∷ x ∷ [])) (object (members_of ((codes "a", natural 7) ∷ [])))

@@ -1,5 +1,5 @@
 -- Reads that pass a quota, worked out with small ones: the error, the interval up to the last row, the cost.
-use Rattle.std.specs.Prelude.{◌≡◌, ℕ, zero, suc, ◌+◌, ◌/◌, ◌%◌, pos, false, true, List, [], ◌∷◌, Some, codes}
+use Rattle.std.specs.Prelude.{◌≡◌, ℕ, zero, suc, ◌+◌, ◌/◌, ◌%◌, pos, false, true, List, [], ◌∷◌, Some, None, codes}
 use Rattle.cv_values.specs.Value.{Value, null, string}
 use Rattle.cv_keys.specs.Places.{below, above}
 use Rattle.fn_tree.specs.Actions.{Limits}
@@ -9,7 +9,9 @@ use Rattle.fn_tree.specs.ExampleDocuments.{id_of, text_of_id, three, of_one, of_
 use Rattle.fn_tree.specs.ExampleModules.{object_with, built, query_does, mutation_does, example, asks, mutates, with_x, ended, x, natural}
 use Rattle.fn_tree.specs.Functions.{query_limits}
 use Rattle.fn_tree.specs.Run.{Run, run, run_within}
+use Rattle.fn_tree.specs.Scan as quota
 use Rattle.fn_tree.specs.SyntaxTree.{Expr, expr, patch, no_bounds, all_rows, Act, evaluate, give_back}
+use Rattle.fn_tree.specs.declared.stop.Left.{Left}
 use Rattle.fn_tree.specs.declared.syntax.Builtin.TheVariants.{Len}
 
 -- a query on the three documents, each of size 13, within some limits
@@ -63,6 +65,17 @@ AreWorkedQuotas =
     × (does (of_rows 0) (string (text_of_id 2 0)) (give_back get_x ∷ []) ≡ read_ended (codes "RowLimit") (of_id 2 0 ∷ []) 2)
     × (does (of_rows 5) null (evaluate count_t ∷ give_back up ∷ [])
     ≡ read_ended (codes "RowLimit") (by_creation ∷ by_n (below []) (above (place_of 3 10)) ∷ []) 8)
+
+-- one read may have 8,192 rows; of several quotas that are passed at once, the first of cost, rows, size and rows of this read counts
+abbrev pub AreWorkedReadRows : Type 0
+AreWorkedReadRows =
+    let ample : Left = record { cost = 100000; rows = 16384; size = 8388608 } in
+    (quota.passed ample 8192 8388608 ≡ None)
+    × (quota.passed ample 8193 8388608 ≡ Some quota.of_read)
+    × (quota.passed (record ample { size = 5 }) 8193 6 ≡ Some quota.of_size)
+    × (quota.passed (record ample { rows = 8192; size = 5 }) 8193 6 ≡ Some quota.of_rows)
+    × (quota.passed (record ample { cost = 8192; rows = 8192; size = 5 }) 8193 6 ≡ Some quota.of_cost)
+    × (quota.passed (record ample { cost = 8192; rows = 8192; size = 5 }) 8192 5 ≡ None)
 
 -- a read too many is not recorded; its operands come first
 abbrev pub AreWorkedRanges : Type 0

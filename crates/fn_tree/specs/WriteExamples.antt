@@ -4,13 +4,15 @@ use Rattle.cv_values.specs.Value.{Value, null, string, object, members_of}
 use Rattle.cv_values.specs.declared.doc.Doc.{Doc}
 use Rattle.cv_keys.specs.Places.{PlaceInterval, below, above}
 use Rattle.cv_keys.specs.declared.write.Write.{Write}
-use Rattle.fn_tree.specs.CallExamples.{AreWorkedStarts, AreWorkedReplies, AreWorkedLimits}
+use Rattle.fn_tree.specs.CallExamples.{AreWorkedStarts, AreWorkedReplies, AreWorkedLimits, AreWorkedTexts}
 use Rattle.fn_tree.specs.Course.{gives, asked, placed, ended as ended_with, stops, get_doc}
 use Rattle.fn_tree.specs.ExampleDocuments.{id_of, text_of_id, numbered, three, of_three, rows_of, place_of, by_n, by_creation, of_id, read_ended, count_t, get_x, scan_n, last_rows}
-use Rattle.fn_tree.specs.ExampleModules.{named, number, words, object_with, object_at, mutation_does, example, mutates, with_x, ended, HasError, x, one_by_zero, natural, nested, nested_value}
+use Rattle.fn_tree.specs.ExampleModules.{named, number, words, object_with, object_at, query_does, mutation_does, example, asks, mutates, with_x, ended, HasError, x, one_by_zero, natural, nested, nested_value}
 use Rattle.fn_tree.specs.Functions.{mutation_limits, course_of}
 use Rattle.fn_tree.specs.Actions.{Limits}
-use Rattle.fn_tree.specs.Run.{Run, run_within}
+use Rattle.fn_tree.specs.PartExamples.{no_field}
+use Rattle.fn_tree.specs.ReadExamples.{two_tables, id_in_u, text_in_u}
+use Rattle.fn_tree.specs.Run.{Run, run, run_within}
 use Rattle.fn_tree.specs.SyntaxTree.{Expr, expr, insert, delete, patch, replace, get, bound, no_bounds, all_rows, Act, evaluate, give_back, throw}
 use Rattle.fn_tree.specs.declared.syntax.CompareOp.TheVariants.{Greater}
 
@@ -51,6 +53,10 @@ does v acts = does_within mutation_limits v acts
 abbrev to_two : List Act → Run
 to_two acts = does (string (text_of_id 2 0)) acts
 
+-- the same in a query
+abbrev asked_of_two : Expr → Run
+asked_of_two e = run (example (query_does (evaluate e ∷ []) ∷ [])) (asks (codes "q") (with_x (string (text_of_id 2 0)))) three
+
 abbrev wrote : Value → List Write → List PlaceInterval → (cost : ℕ) → Run
 wrote v writes reads cost = record { reply = gives v; writes = writes; reads = reads; cost = cost }
 
@@ -78,6 +84,8 @@ AreWorkedInserts =
     × (does null (evaluate (inserts x) ∷ []) ≡ ended (codes "TypeError") 1)
     × (does null (evaluate (inserts one_by_zero) ∷ []) ≡ ended (codes "DivisionByZero") 1)
     × HasError (inserts (v_of 8)) (codes "TypeError")
+    × (run (two_tables (mutation_does (give_back (expr 0 (insert (named (codes "u")) (v_of 8))) ∷ []) ∷ [])) (mutates 7 (codes "m") (with_x null)) []
+    ≡ wrote (string (text_in_u 7)) (record { id = id_in_u 7; old = None; new = Some (record { id = id_in_u 7; creation = pos 5; fields = v_is 8 ∷ [] }) } ∷ []) [] 1)
 
 -- patch keeps the other fields, replace drops them, and one write tells of all that was done to an id
 abbrev pub AreWorkedChanges : Type 0
@@ -96,7 +104,7 @@ AreWorkedChanges =
     × (to_two (evaluate (expr 0 (delete (inserts (v_of 8)))) ∷ give_back (inserts (v_of 9)) ∷ [])
     ≡ wrote (string (text_of_id 7 1)) (made_new 1 (v_is 9 ∷ []) ∷ []) (of_id 7 0 ∷ []) 3)
 
--- an error drops the writes and keeps the reads; errors in their order
+-- an error drops the writes and keeps the reads; errors in their order, the id's operand before the object's; in a query nothing is changed or read
 abbrev pub AreWorkedRefusals : Type 0
 AreWorkedRefusals =
     (to_two (evaluate deletes ∷ throw (words (codes "no")) ∷ []) ≡ read_ended (codes "Thrown: no") (of_id 2 0 ∷ []) 3)
@@ -110,9 +118,16 @@ AreWorkedRefusals =
     × (does (string (codes "0")) (evaluate (patches (number 5)) ∷ []) ≡ ended (codes "BadId") 1)
     × (does (string (codes "0")) (evaluate (replaces (number 5)) ∷ []) ≡ ended (codes "BadId") 1)
     × (does (string (codes "0")) (evaluate (patches one_by_zero) ∷ []) ≡ ended (codes "DivisionByZero") 1)
+    × (does null (evaluate (expr 0 (patch no_field one_by_zero)) ∷ []) ≡ ended (codes "NoField") 1)
+    × (does null (evaluate (expr 0 (patch one_by_zero no_field)) ∷ []) ≡ ended (codes "DivisionByZero") 1)
+    × (does null (evaluate (expr 0 (replace no_field one_by_zero)) ∷ []) ≡ ended (codes "NoField") 1)
+    × (does null (evaluate (expr 0 (replace one_by_zero no_field)) ∷ []) ≡ ended (codes "DivisionByZero") 1)
     × (does (string (codes "0")) (evaluate deletes ∷ []) ≡ ended (codes "BadId") 1)
     × (does (natural 5) (evaluate deletes ∷ []) ≡ ended (codes "TypeError") 1)
     × HasError deletes (codes "TypeError")
+    × (asked_of_two deletes ≡ ended (codes "TypeError") 1)
+    × (asked_of_two (patches (w_of 5)) ≡ ended (codes "TypeError") 1)
+    × (asked_of_two (replaces (w_of 5)) ≡ ended (codes "TypeError") 1)
 
 abbrev object_of_new : ℕ → Value
 object_of_new n = object (members_of ((codes "_creationTime", natural 5) ∷ (codes "_id", string (text_of_id 7 0)) ∷ v_is n ∷ []))
@@ -174,4 +189,4 @@ AreWorkedWriteLimits =
     × (does_within (record mutation_limits { ranges = 0 }) id (evaluate deletes ∷ []) ≡ ended (codes "RangeLimit") 1)
 
 abbrev pub IsWorkedWrites : Type 0
-IsWorkedWrites = AreWorkedInserts × AreWorkedChanges × AreWorkedRefusals × AreWorkedOwnRows × AreWorkedPuts × AreWorkedWriteLimits × AreWorkedStarts × AreWorkedReplies × AreWorkedLimits
+IsWorkedWrites = AreWorkedInserts × AreWorkedChanges × AreWorkedRefusals × AreWorkedOwnRows × AreWorkedPuts × AreWorkedWriteLimits × AreWorkedStarts × AreWorkedReplies × AreWorkedLimits × AreWorkedTexts

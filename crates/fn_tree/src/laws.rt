@@ -1,4 +1,5 @@
 //! Laws of the definitions, each a function with nothing to do.
+ghost use Rattle.std.specs.Prelude.{◌≡◌, ◌↔◌, true};
 ghost use Rattle.fn_tree.specs.AsksThere.{RunsAskThere};
 ghost use Rattle.fn_tree.specs.CanonicalLaws.{CanonicalReadsBack};
 ghost use Rattle.fn_tree.specs.CommitLaws.{CommitsAreLegal, AnswersStay};
@@ -13,6 +14,10 @@ ghost use Rattle.fn_tree.specs.ReadExamples.{IsWorkedReads};
 ghost use Rattle.fn_tree.specs.ReadLaws.{ReadsDecide, RunsAgree};
 ghost use Rattle.fn_tree.specs.StatementExamples.{IsWorkedStatements};
 ghost use Rattle.fn_tree.specs.WriteExamples.{IsWorkedWrites};
+ghost use Rattle.fn_tree.specs.declared.stop.Query.{Query as Queries};
+
+use crate::stop::Query;
+use cv_values::equal_where_same;
 
 /// The tokens of a text stand apart in it, in order and none empty, and before the place at which no
 /// token begins; each is what the text begins with at its place; and no integer among them is greater
@@ -26,7 +31,7 @@ pub fn tokens_of_texts()
     ensures texts { TokensAreTexts }
 {}
 
-/// The tokens of some texts, worked out.
+/// The tokens, the trees with their places, the canonical text and the faults of some texts, worked out.
 pub fn worked_tokens()
     ensures tokens { IsWorkedTokens }
     ensures nesting { IsWorkedNesting }
@@ -57,6 +62,13 @@ pub fn legal_histories()
 pub fn runs_put_truly()
     ensures { RunsPutTruly }
 {}
+
+/// Two calls of queries are equal exactly where path and arguments stand for the same.
+pub fn same_queries()
+    ensures { (q : Queries) (r : Queries) → (⟦<Query as PartialEq>⟧.eq q r ≡ true) ↔ (q ≡ r) }
+{
+    equal_where_same();
+}
 
 /// Each scan that a run asks for is one of an index that its program has, whatever the answers are.
 pub fn runs_ask_there()

@@ -25,12 +25,12 @@ pub use entry::{Call, Entry, Reply};
 pub use fault::{SyntaxFault, Why};
 pub use laws::{
     at_most_one_module, canonical_texts, commits_are_legal, legal_histories, reads_decide,
-    runs_put_truly, tokens_of_texts, worked_runs, worked_tokens,
+    runs_ask_there, runs_put_truly, same_queries, tokens_of_texts, worked_runs, worked_tokens,
 };
 pub use lexeme::{Lexeme, Mark, Terminal, Word};
 pub use printer::print;
 pub use start::Origin;
-pub use stop::{Answer, Ask, Left, Outcome, Put, Query};
+pub use stop::{Answer, Ask, Left, Outcome, Put, Query, READ_ROWS};
 pub use syntax::{
     BinaryOp, BoundExpr, Builtin, CompareOp, Expr, ExprForm, Function, IndexDecl, Kind, Module,
     Named, Stmt, StmtForm, TableDecl, UnaryOp,

@@ -5,6 +5,9 @@ use cv_keys::Interval;
 use cv_values::{Doc, DocId, Fields, Memory, Text};
 use std::alloc::Global;
 
+/// The most rows of one read.
+pub const READ_ROWS: u64 = 8192;
+
 /// What a run may still consume: units of cost, rows, and size units of the rows' fields.
 #[derive(Clone, Copy, Debug, PartialEq, Eq)]
 pub struct Left {

@@ -22,6 +22,7 @@ mod values;
 mod writes;
 
 pub use cv_store::Runs;
+pub use fn_tree::Origin;
 pub use machine::Machine;
 pub use start::Start;
 pub use stop::Stop;

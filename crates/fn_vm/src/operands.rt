@@ -42,6 +42,7 @@ impl Operand {
             Operand::Missing => None,
         }
     }
+
     /// The value itself where it was taken, and a copy where it stays in a variable.
     pub fn into_value(self, alloc: Global, vars: &Slots) -> Result<Option<Val>, Memory>
         ensures { IfOk result (λ v. option_map tree v ≡ value_of self vars.now) }

@@ -36,7 +36,7 @@ fn target_of(code: &Code, v: &Val) -> Target
 }
 
 impl Run {
-    // What may still be used up, where one read more is within the limit. It is counted.
+    /// What may still be used up, where one read more is within the limit. It is counted.
     pub fn question(&mut self, terms: &Terms) -> Option<Left>
         ensures asked { (q : Left → PlainAsk) → reads (terms_view terms.now) (state_view self.old) q ≡ asked result q (state_view self.new) }
         ensures size { IfSome result (λ left. left.size < 2 ^ 32) }

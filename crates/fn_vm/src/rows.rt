@@ -21,11 +21,8 @@ use crate::stop::Stop;
 use crate::writes::object_size;
 use cv_values::{Doc, DocId, Fields, Memory, Text, Val, Vals, id_text, read_id};
 use fn_ops::made;
-use fn_tree::{CompareOp, Left, Outcome, Put, Reply};
+use fn_tree::{CompareOp, Left, Outcome, Put, READ_ROWS, Reply};
 use std::alloc::Global;
-
-/// The most rows of one read.
-const READ_ROWS: u64 = 8192;
 
 /// How a document's fields are changed by those of an object.
 #[derive(Clone, Copy, Debug, PartialEq, Eq)]
