@@ -12,7 +12,7 @@ use Rattle.cv_run.proofs.RestLemmas.{pending_true, put_rest, read_rest}
 use Rattle.fn_tree.specs.AsksThere.{IsThere}
 use Rattle.cv_run.specs.Pauses.{Runs, AtRead}
 use Rattle.cv_run.specs.Rest.{IsRest}
-use Rattle.cv_store.specs.Reads.{Request, one_doc, first_rows, StandsFor, IsReadable, read_from}
+use Rattle.cv_store.specs.Reads.{StoreRead, one_doc, first_rows, StandsFor, IsReadable, read_from}
 use Rattle.cv_store.specs.declared.proposal.ReadReq.{ReadReq}
 use Rattle.cv_store.specs.declared.proposal.ReadReq.TheVariants as request
 use Rattle.cv_tx.specs.Asks as asks
@@ -49,7 +49,7 @@ is_indexed schema (Get id left) q e there = tt
 is_indexed schema (Scan interval desc limit left) q (i, e, same, lo, hi, size) there =
     subst (λ (j : Interval). IsSome (index_at schema j.table j.index)) (sym same) (subst (IsThere schema) e there)
 
-abbrev scanned : PlaceInterval → Request → PlaceInterval
+abbrev scanned : PlaceInterval → StoreRead → PlaceInterval
 scanned i (one_doc id) = i
 scanned i (first_rows j desc rows size) = j
 

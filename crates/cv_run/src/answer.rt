@@ -9,34 +9,12 @@ use crate::pause::Pause;
 use crate::run_on::read_on;
 use crate::starts::start_run;
 use cv_reads::ReadSet;
-use cv_store::{Look, Proposal, Runs, Store};
-use cv_tx::Tx;
-use cv_values::{Fields, Memory, Text};
+use cv_store::{Look, Runs, Store};
+use cv_values::Memory;
 use fn_load::Program;
-use fn_tree::{Call, Query, Reply};
+use fn_tree::{Query, Reply};
 use fn_vm::Start;
 use std::alloc::Global;
-
-// What a run has read. A query has no call, so the proposal has none either.
-fn reads_of(alloc: Global, tx: Tx) -> Result<ReadSet, Memory>
-    ensures { IfOk result (λ reads. reads ≡ tx.reads) }
-{
-    let call = Call {
-        session: 0,
-        request: 0,
-        udf: Text::of(alloc, "")?,
-        args: Fields::new(alloc),
-        now: 0,
-    };
-    let Proposal {
-        call: _,
-        snapshot: _,
-        reply: _,
-        writes: _,
-        reads,
-    } = tx.propose(call, Reply::Failed(Text::of(alloc, "")?));
-    Ok(reads)
-}
 
 // Runs a query on the documents of a timestamp, one store read at a time.
 fn run_query<S: Store>(
@@ -76,7 +54,7 @@ fn run_query<S: Store>(
                     &plan,
                 )?;
             }
-            Pause::End { reply, told: _ } => return Ok((reply, reads_of(alloc, tx)?)),
+            Pause::End { reply, told: _ } => return Ok((reply, tx.into_reads())),
         }
     }
 }
@@ -96,6 +74,7 @@ pub fn answer<S: Store>(
     ensures store { Extends (S.stands store.old) (S.stands store.new) [] }
     ensures ok { IfOk result (λ r. IsAnswer (query_run (S.stands store.old) query.now ts) r.0 r.1) }
     ensures runs { IfOk result (λ r. AnswersIn (S.stands store.old) (S.stands store.new) (S.stands store.old).cache query.now ts runs.old.count runs.new.count r.0 r.1) }
+    ensures cache { OnErr result ((S.stands store.new).cache ≡ (S.stands store.old).cache) }
     ensures err { OnErr result (AtMostOne runs.old.count runs.new.count) }
 {
     match store.look(alloc, query, ts)? {

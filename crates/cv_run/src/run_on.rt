@@ -79,6 +79,7 @@ pub fn run_on(
     ensures snapshot { tx.new.snapshot ≡ tx.old.snapshot }
     ensures reads { tx.new.reads ≡ tx.old.reads }
 {
+    // A bound in place of a measure: the quotas end each run long before.
     for _ in 0..u64::MAX {
         match machine.advance(code)? {
             Stop::Ask(ask) => return at_read(alloc, tx, ask),

@@ -47,9 +47,9 @@ abbrev pub under_of : Standing → Call → Begun → Option Under
 under_of t call (begun.Fresh ts) = Some (record { program = t.program; call = call; snapshot = ts; reads = 0; seen = t.seen })
 under_of t call (begun.Known ts reply) = None
 
-abbrev pub runs_after : Begun → ℕ → ℕ
-runs_after (begun.Fresh ts) n = one_more n
-runs_after (begun.Known ts reply) n = n
+abbrev pub runs_begun : Begun → ℕ → ℕ
+runs_begun (begun.Fresh ts) n = one_more n
+runs_begun (begun.Known ts reply) n = n
 
 -- the step was a begin
 pub record StepsBegin (s t : Standing) (call : Call) (after : Option Under) (runs runs' : ℕ) (went : JobWent) : Type 0 where
@@ -57,7 +57,7 @@ pub record StepsBegin (s t : Standing) (call : Call) (after : Option Under) (run
   pub store : Reads s t
   pub begins : Begins t call.session call.request begun
   pub under : after ≡ under_of t call begun
-  pub counted : runs' ≡ runs_after begun runs
+  pub counted : runs' ≡ runs_begun begun runs
   pub told : went ≡ begun_as begun
 
 -- the step was a read
@@ -96,9 +96,9 @@ abbrev pub AtMostOne : (runs runs' : ℕ) → Type 0
 AtMostOne runs runs' = (runs' ≡ runs) ⊎ (runs' ≡ one_more runs)
 
 -- want of memory in a step: the next one is a begin, and only a begin may have started a run
-abbrev pub runs_under : Option Under → (runs runs' : ℕ) → Type 0
-runs_under None runs runs' = AtMostOne runs runs'
-runs_under (Some u) runs runs' = runs' ≡ runs
+abbrev pub RunsUnder : Option Under → (runs runs' : ℕ) → Type 0
+RunsUnder None runs runs' = AtMostOne runs runs'
+RunsUnder (Some u) runs runs' = runs' ≡ runs
 
 -- where the cache is told, a query is run just where the cache has no answer of it, and its answer is then kept
 abbrev pub AnswersIn : (s t : Standing) → Option Cache → Query → (ts runs runs' : ℕ) → Reply → List Interval → Type 0

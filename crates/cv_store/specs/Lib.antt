@@ -1,4 +1,5 @@
 pub mod Cache
+pub mod Examples
 pub mod FirstTouch
 pub mod Jobs
 pub mod Kept

@@ -14,12 +14,12 @@ use Rattle.cv_store.specs.declared.proposal.ReadReq.{ReadReq}
 use Rattle.cv_store.specs.declared.proposal.ReadReq.TheVariants.{Get, Scan}
 
 -- one read: of a document by its id, or of the first rows of an interval
-pub data Request : Type 0 where
-  one_doc : DocId → Request
-  first_rows : PlaceInterval → (desc : Bool) → (rows size : ℕ) → Request
+pub data StoreRead : Type 0 where
+  one_doc : DocId → StoreRead
+  first_rows : PlaceInterval → (desc : Bool) → (rows size : ℕ) → StoreRead
 
 -- a read in bytes stands for one in places; the ends are some that the key order law speaks of
-abbrev pub StandsFor : ReadReq → Request → Type 0
+abbrev pub StandsFor : ReadReq → StoreRead → Type 0
 StandsFor (Get id) q = q ≡ one_doc id
 StandsFor (Scan interval desc rows size) q =
     (i : PlaceInterval) × (q ≡ first_rows i desc rows size) × (interval ≡ in_bytes i) × EndInRange i.lo × EndInRange i.hi
@@ -36,6 +36,6 @@ cut (suc rows) size [] = []
 cut (suc rows) size (d ∷ ds) = d ∷ cond (nat_lt size (doc_size d)) [] (cut rows (size - doc_size d) ds)
 
 -- what one read gives: the document of the id, if there is one, or the first rows in the direction
-abbrev pub read_from : Schema → Docs → Request → List Doc
+abbrev pub read_from : Schema → Docs → StoreRead → List Doc
 read_from schema ds (one_doc id) = found (doc_of id ds)
 read_from schema ds (first_rows i desc rows size) = cut rows size (in_direction desc (rows_at schema i ds))

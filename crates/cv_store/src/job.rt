@@ -1,5 +1,5 @@
 ghost use Rattle.std.specs.Prelude.{◌≡◌, ◌≤◌, [], length, None, is_none, IfOk, OnErr};
-ghost use Rattle.cv_store.specs.Jobs.{GoesOnOver, Steps, AtMostOne, runs_under, AnswersIn};
+ghost use Rattle.cv_store.specs.Jobs.{GoesOnOver, Steps, AtMostOne, RunsUnder, AnswersIn};
 ghost use Rattle.cv_store.specs.Stores.{Extends, Reads, IsAnswer, query_run};
 
 use crate::conflict::Conflict;
@@ -14,8 +14,11 @@ use std::alloc::Global;
 /// this entry.
 #[derive(Debug, Drop)]
 pub enum JobWent {
+    /// It began on a snapshot, or it read.
     Moved,
+    /// The commit was refused for this touch, and the next step is a begin.
     SentBack(Conflict),
+    /// The entry was appended, or it stood in the log before.
     Done { ts: u64, reply: Reply },
 }
 
@@ -58,7 +61,7 @@ pub trait Job {
         ensures ok { IfOk result (λ went. Steps (S.stands store.old) (S.stands store.new) call.entry.now (under self.old) (under self.new) runs.old.count runs.new.count went) }
         ensures store { OnErr result (Reads (S.stands store.old) (S.stands store.new)) }
         ensures under { OnErr result (under self.new ≡ None) }
-        ensures runs { OnErr result (runs_under (under self.old) runs.old.count runs.new.count) };
+        ensures runs { OnErr result (RunsUnder (under self.old) runs.old.count runs.new.count) };
 
     /// The reply of a query at a timestamp and what its run reads: the kept one, or else by a run, which
     /// is then kept. The job stays as it is.
@@ -77,5 +80,6 @@ pub trait Job {
         ensures store { Extends (S.stands store.old) (S.stands store.new) [] }
         ensures ok { IfOk result (λ r. IsAnswer (query_run (S.stands store.old) query.now ts) r.0 r.1) }
         ensures runs { IfOk result (λ r. AnswersIn (S.stands store.old) (S.stands store.new) (S.stands store.old).cache query.now ts runs.old.count runs.new.count r.0 r.1) }
+        ensures cache { OnErr result ((S.stands store.new).cache ≡ (S.stands store.old).cache) }
         ensures err { OnErr result (AtMostOne runs.old.count runs.new.count) };
 }

@@ -1,4 +1,5 @@
 //! Laws of the first touch.
+ghost use Rattle.cv_store.specs.Examples.{AreWorkedTouches, AreWorkedCaches};
 ghost use Rattle.cv_store.specs.TouchLaws.{EntriesGoByMarks, HistoriesGoByMarks, AnswersTell};
 
 /// The first touch of an entry is that of its marks, in their order, and the first touch of a history
@@ -8,4 +9,10 @@ pub fn touches_go_by_marks()
     ensures entries { EntriesGoByMarks }
     ensures histories { HistoriesGoByMarks }
     ensures answers { AnswersTell }
+{}
+
+/// Touches, kept replies and kept answers, computed by the definitions on two entries and some answers.
+pub fn worked_stores()
+    ensures touches { AreWorkedTouches }
+    ensures caches { AreWorkedCaches }
 {}

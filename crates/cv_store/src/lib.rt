@@ -6,6 +6,7 @@
 #![tactic(auto)]
 
 mod conflict;
+mod has_history;
 mod job;
 mod laws;
 mod look;
@@ -16,8 +17,9 @@ mod tail;
 
 pub use conflict::Conflict;
 pub use fn_tree::{Call, Entry, Query, Reply};
+pub use has_history::HasHistory;
 pub use job::{Job, JobWent};
-pub use laws::touches_go_by_marks;
+pub use laws::{touches_go_by_marks, worked_stores};
 pub use look::Look;
 pub use proposal::{Begun, Ended, Proposal, ReadReq};
 pub use runs::Runs;

@@ -1,6 +1,6 @@
 ghost use Rattle.std.specs.Prelude.{◌≡◌, ◌≤◌, [], length, IfOk, IfErr, OnErr};
 ghost use Rattle.fn_tree.specs.History.{docs_at};
-ghost use Rattle.cv_store.specs.Reads.{Request, StandsFor, IsReadable, read_from};
+ghost use Rattle.cv_store.specs.Reads.{StoreRead, StandsFor, IsReadable, read_from};
 ghost use Rattle.cv_store.specs.Stores.{schema_in, Extends, Reads, IsAnswer, query_run, IsRunOf, Begins, Commits, Looks, LooksIn, cached, Keeps};
 ghost use Rattle.cv_store.specs.Tails.{tail_from};
 
@@ -33,7 +33,7 @@ pub trait Store {
         requires seen { ts ≤ length (stands self.old).seen }
         requires readable { IsReadable (schema_in (stands self.old)) ask.now }
         ensures store { Reads (stands self.old) (stands self.new) }
-        ensures ok { (q : Request) → StandsFor ask.now q → IfOk result (λ ds. ds.items ≡ read_from (schema_in (stands self.old)) (docs_at (stands self.old).seen ts) q) };
+        ensures ok { (q : StoreRead) → StandsFor ask.now q → IfOk result (λ ds. ds.items ≡ read_from (schema_in (stands self.old)) (docs_at (stands self.old).seen ts) q) };
 
     /// Appends the entry of a proposal, unless its session's request has one already, or a later entry
     /// touches what it read. For want of memory the proposal comes back.

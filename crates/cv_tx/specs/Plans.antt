@@ -5,7 +5,7 @@ use Rattle.cv_keys.specs.declared.write.Write.{Write}
 use Rattle.fn_tree.specs.Course.{Ask, get_doc, scan_rows}
 use Rattle.fn_tree.specs.Scan.{read_rows, doc_size}
 use Rattle.fn_tree.specs.declared.stop.Left.{Left}
-use Rattle.cv_store.specs.Reads.{Request, one_doc, first_rows}
+use Rattle.cv_store.specs.Reads.{StoreRead, one_doc, first_rows}
 
 -- the number of the first row that passes a quota of rows
 abbrev pub quota_rows : Left → ℕ
@@ -35,7 +35,7 @@ removed_size table [] = 0
 removed_size table (w ∷ ws) = cond (w.id.table == table) (size_of_rows w.old) 0 + removed_size table ws
 
 -- as many rows as the read and the pending removals can need
-abbrev pub plan_of : List Write → Ask → Request
+abbrev pub plan_of : List Write → Ask → StoreRead
 plan_of ws (get_doc id left) = one_doc id
 plan_of ws (scan_rows i desc limit left) =
     first_rows i desc (most_rows limit left + removed_rows i.table ws) (left.size + removed_size i.table ws)

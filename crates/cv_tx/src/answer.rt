@@ -114,6 +114,7 @@ pub(crate) fn answer_from(
             limit,
             left,
         } => match schema.index_at(interval.table, interval.index) {
+            // Runs ask for no index that isn't there.
             None => unreachable!(),
             Some(index) => scan(alloc, index, writes, interval, *desc, *limit, left, rows),
         },

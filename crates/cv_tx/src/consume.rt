@@ -4,11 +4,10 @@ ghost use Rattle.cv_keys.specs.Places.{PlaceInterval};
 ghost use Rattle.fn_tree.specs.Scan.{rows_size, passed, is_cut, consumed_after, scan_answer};
 ghost use Rattle.cv_tx.specs.Asks.{IsBytesOf, Answers, part_of, scan_of};
 
-use crate::plan::READ_ROWS;
 use crate::size::{added, doc_size};
 use cv_keys::{Index, Interval, index_key};
 use cv_values::{Doc, Memory};
-use fn_tree::{Answer, Left};
+use fn_tree::{Answer, Left, READ_ROWS};
 use std::alloc::Global;
 
 /// Whether so many rows of this size together pass a quota.

@@ -62,6 +62,7 @@ fn add_new(
 ) -> Result<(), Memory>
     ensures { (p : PlaceInterval) → IsBytesOf p i.now → OnOk result (rows.new.items ≡ with_row index.now p desc new.now rows.old.items) }
 {
+    // Three returns, since what holds of each branch is lost where they join.
     if let Some(doc) = new {
         if is_within(alloc, index, i, doc)? {
             let at = place_among(alloc, index, desc, rows.as_slice(), doc)?;

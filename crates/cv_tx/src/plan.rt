@@ -5,10 +5,7 @@ ghost use Rattle.cv_tx.specs.Plans.{most_rows, quota_rows, rows_of, size_of_rows
 use crate::size::{added, doc_size};
 use cv_keys::Write;
 use cv_values::Memory;
-use fn_tree::Left;
-
-/// The most rows of one read.
-pub(crate) const READ_ROWS: u64 = 8192;
+use fn_tree::{Left, READ_ROWS};
 
 fn quota_rows(left: &Left) -> u64
     ensures { result ≡ quota_rows left.now }

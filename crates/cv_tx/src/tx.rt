@@ -121,6 +121,13 @@ impl Tx {
             reads,
         }
     }
+
+    /// What the run has read, where there is nothing to propose.
+    pub fn into_reads(self) -> ReadSet
+        ensures { result ≡ self.reads }
+    {
+        self.reads
+    }
 }
 
 // The number of the first write of an id.

@@ -87,7 +87,7 @@ returns-in-End-clause-ok g c =
     let ds = docs_at store.seen c.args.ts in
     let l = c.loop-pause in
     let paused = subst (λ (p : Pause). Pauses code store.program s ds l.machine l.tx p) c.in-End.is l.invariant.1 in
-    end_answer code store.program s ds l.machine l.tx c.in-End.reply c.in-End.told c.in_ok-reads_of-in-End.field-0 c.in_ok-reads_of-in-End.ensures paused
+    end_answer code store.program s ds l.machine l.tx c.in-End.reply c.in-End.told c.into_reads.result c.into_reads.ensures paused
 
 pub loop-pause-smaller-in_ok-pause-in-Read : goal.loop-pause-smaller-in_ok-pause-in-Read
 loop-pause-smaller-in_ok-pause-in-Read g c =
