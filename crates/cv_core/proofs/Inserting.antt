@@ -1,8 +1,8 @@
 -- Changes that are made one after the other.
-use Rattle.std.proofs.Common.{◌≡◌, ℕ, suc, ◌+◌, ◌<◌, ◌≤◌, Bool, true, false, cond, List, [], ◌∷◌, length, refl, sym, ap, ◌∙◌, subst, arith}
+use Rattle.std.proofs.Common.{◌≡◌, ℕ, suc, ◌+◌, ◌<◌, ◌≤◌, Bool, true, false, cond, List, [], ◌∷◌, length, refl, sym, ap, subst, arith}
 use Rattle.std.specs.Prelude.{◌==◌}
 use Rattle.std.specs.List.{AllByRecursion}
-use Rattle.std.proofs.lemmas.Bool.{and_from, eq-eqb, eqb-true}
+use Rattle.std.proofs.lemmas.Bool.{and_from, eq-eqb}
 use Rattle.cv_docs.specs.Entries.{AllEarlier, inserted}
 use Rattle.cv_docs.specs.History.{with_all, AreAllowed}
 use Rattle.cv_flat.specs.Listed.{Listed}
@@ -61,20 +61,7 @@ module _ (ts : ℕ) (c : Change) (cs : List Change) (tables : List (List Listed)
 
 -- ---- room for each change so far
 
-pub rooms_stay : (each table index : ℕ) (tables after : List (List Listed)) → each ≤ spare_at table index after
-    → ((t i : ℕ) → ((t ≡ table) → (i ≡ index) → ⊥) → spare_at t i after ≡ spare_at t i tables)
-    → (t i : ℕ) → each ≤ spare_at t i tables → each ≤ spare_at t i after
-rooms_stay each table index tables after here others t i h = go (t == table) refl (i == index) refl
-  where
-    go : (a : Bool) → (t == table) ≡ a → (b : Bool) → (i == index) ≡ b → each ≤ spare_at t i after
-    go true p true q =
-        subst (λ (n : ℕ). each ≤ spare_at n i after) (sym (eqb-true t table p)) (subst (λ (n : ℕ). each ≤ spare_at table n after) (sym (eqb-true i index q)) here)
-    go false p b q = subst (λ (n : ℕ). each ≤ n) (sym (others t i (λ e _. let f : true ≡ false = sym (eq-eqb t table e) ∙ p in cc))) h
-    go true p false q = subst (λ (n : ℕ). each ≤ n) (sym (others t i (λ _ e. let f : true ≡ false = sym (eq-eqb i index e) ∙ q in cc))) h
-
-pub all_stay : (each table index : ℕ) (tables after : List (List Listed)) → each ≤ spare_at table index after
-    → ((t i : ℕ) → ((t ≡ table) → (i ≡ index) → ⊥) → spare_at t i after ≡ spare_at t i tables)
+pub all_stay : (each : ℕ) (tables after : List (List Listed)) → ((t i : ℕ) → spare_at t i tables ≤ spare_at t i after)
     → (cs : List Change) → AllByRecursion (λ c. each ≤ spare_at c.table c.index tables) cs → AllByRecursion (λ c. each ≤ spare_at c.table c.index after) cs
-all_stay each table index tables after here others [] h = tt
-all_stay each table index tables after here others (c ∷ cs) h =
-    (rooms_stay each table index tables after here others c.table c.index h.0, all_stay each table index tables after here others cs h.1)
+all_stay each tables after grows [] h = tt
+all_stay each tables after grows (c ∷ cs) h = (let more = grows c.table c.index in omega (arith, more, h.0), all_stay each tables after grows cs h.1)

@@ -31,11 +31,14 @@ module _ (tables : List (List Listed)) (table : ℕ) (old new : List Listed) (th
       ∙ ap (λ (k : ℕ). f (rows_of k i tables)) (sym e))
       (λ n. elsewhere tables table old new there within f t i n)
 
-  pub others_stay : (index : ℕ) → ((i : ℕ) → (i ≡ index → ⊥) → spare_or (slice_get new i) ≡ spare_or (slice_get old i))
-      → (t i : ℕ) → ((t ≡ table) → (i ≡ index) → ⊥) → spare_at t i (set tables table new) ≡ spare_at t i tables
-  others_stay index h t i n = by_table t (spare_at t i (set tables table new) ≡ spare_at t i tables)
-      (λ e. stays_at spare_or i (h i (n e)) t)
-      (λ m. elsewhere tables table old new there within spare_or t i m)
+  pub spare_grows : ((i : ℕ) → spare_or (slice_get old i) ≤ spare_or (slice_get new i)) → (t i : ℕ) → spare_at t i tables ≤ spare_at t i (set tables table new)
+  spare_grows h t i = by_table t (spare_at t i tables ≤ spare_at t i (set tables table new))
+      (λ e.
+      let was : spare_at t i tables ≡ spare_or (slice_get old i) = ap (λ (k : ℕ). spare_at k i tables) e ∙ was_in_table tables table old new there within spare_or i in
+      let is : spare_at t i (set tables table new) ≡ spare_or (slice_get new i) = ap (λ (k : ℕ). spare_at k i (set tables table new)) e ∙ in_table tables table old new there within spare_or i in
+      let step = h i in
+      omega (arith, was, is, step))
+      (λ m. let same = elsewhere tables table old new there within spare_or t i m in omega (arith, same))
 
   pub room_there : (index each : ℕ) → each ≤ spare_or (slice_get new index) → each ≤ spare_at table index (set tables table new)
   room_there index each h = subst (λ (n : ℕ). each ≤ n) (sym (in_table tables table old new there within spare_or index)) h

@@ -7,6 +7,7 @@
 #![tactic(auto)]
 
 mod change;
+mod has_history;
 mod laws;
 mod marks;
 mod ready;

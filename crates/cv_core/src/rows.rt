@@ -70,6 +70,8 @@ impl Rows {
         ensures docs { self.new.docs ≡ self.old.docs }
         ensures shape { shape self.new.tables ≡ shape self.old.tables }
         ensures rows { (table index : ℕ) → entries_at table index self.new.tables ≡ entries_at table index self.old.tables }
+        ensures spare { self.old.spare ≤ self.new.spare }
+        ensures spares { (table index : ℕ) → spare_at table index self.old.tables ≤ spare_at table index self.new.tables }
         ensures versions { OnOk result (docs ≤ self.new.spare) }
         ensures room { OnOk result (AllByRecursion (λ c. each ≤ spare_at c.table c.index self.new.tables) changes.now) }
     {
@@ -123,6 +125,7 @@ fn rows_at(tables: &[TableRows], table: u32, index: u32) -> Option<&FlatRows>
 fn reserve_each(tables: &mut Vec<TableRows>, each: usize, changes: &[Change]) -> Result<(), Memory>
     ensures shape { shape tables.new.items ≡ shape tables.old.items }
     ensures rows { (table index : ℕ) → entries_at table index tables.new.items ≡ entries_at table index tables.old.items }
+    ensures spare { (table index : ℕ) → spare_at table index tables.old.items ≤ spare_at table index tables.new.items }
     ensures room { OnOk result (AllByRecursion (λ c. each ≤ spare_at c.table c.index tables.new.items) changes.now) }
 {
     for change in changes {
@@ -140,7 +143,7 @@ fn reserve_one(
 ) -> Result<(), Memory>
     ensures shape { shape tables.new.items ≡ shape tables.old.items }
     ensures rows { (t i : ℕ) → entries_at t i tables.new.items ≡ entries_at t i tables.old.items }
-    ensures others { (t i : ℕ) → ((t ≡ table) → (i ≡ index) → ⊥) → spare_at t i tables.new.items ≡ spare_at t i tables.old.items }
+    ensures spare { (t i : ℕ) → spare_at t i tables.old.items ≤ spare_at t i tables.new.items }
     ensures room { OnOk result (each ≤ spare_at table index tables.new.items) }
 {
     let at = table as usize;
@@ -156,6 +159,7 @@ fn push_all(docs: &mut Versions, more: Vec<Doc>)
     ensures { docs.new.docs ≡ docs.old.docs ++ more.items }
 {
     for doc in more {
+        // The changes were made with these numbers before.
         let _number = docs.push(doc);
     }
 }

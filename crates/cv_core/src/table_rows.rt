@@ -52,7 +52,7 @@ impl TableRows {
     pub fn reserve(&mut self, index: u32, each: usize) -> Result<(), Memory>
         ensures count { length self.new ≡ length self.old }
         ensures entries { (i : ℕ) → entries_or (slice_get self.new i) ≡ entries_or (slice_get self.old i) }
-        ensures others { (i : ℕ) → (i ≡ index → ⊥) → spare_or (slice_get self.new i) ≡ spare_or (slice_get self.old i) }
+        ensures spare { (i : ℕ) → spare_or (slice_get self.old i) ≤ spare_or (slice_get self.new i) }
         ensures room { OnOk result (each ≤ spare_or (slice_get self.new index)) }
     {
         let at = index as usize;

@@ -73,6 +73,7 @@ fn marks_after(alloc: Global, log: &WriteLog, from: u64, count: u64) -> Result<V
     requires { from + count ≤ length log.now.marks }
     ensures { IfOk result (λ ms. ms.items ≡ joined (take count (drop from log.now.marks))) }
 {
+    // The length of the log fits its type, and so do the timestamps below.
     let _end = log.len();
     let mut marks = Vec::new(alloc);
     for ts in from..from + count {

@@ -12,12 +12,12 @@ ghost use Rattle.fn_tree.specs.Rows.{rows_at};
 ghost use Rattle.fn_tree.specs.Scan.{id_interval, found, in_direction};
 ghost use Rattle.cv_log.specs.Logs.{entry_at};
 ghost use Rattle.cv_store.specs.Kept.{kept};
-ghost use Rattle.cv_store.specs.Reads.{Request, StandsFor, IsReadable, cut, read_from};
+ghost use Rattle.cv_store.specs.Reads.{StoreRead, StandsFor, IsReadable, cut, read_from};
 ghost use Rattle.cv_store.specs.Stores.{IsRunOf, Begins, IsAnswer, query_run};
 ghost use Rattle.cv_store.specs.Tails.{tail_from};
 ghost use Rattle.cv_core.specs.Cores.{state_of, program_of, schema_in, standing, IsRoom, IsReady};
 ghost use Rattle.cv_core.specs.Ends.{Ends};
-ghost use Rattle.cv_core.specs.Versioned.{entries_at, shape};
+ghost use Rattle.cv_core.specs.Versioned.{entries_at, shape, spare_at};
 ghost use Rattle.cv_store.specs.FirstTouch.{first_touch};
 
 use crate::change::{changes_of, know_id, new_docs};
@@ -107,7 +107,7 @@ impl Core {
         requires readable { IsReadable (schema_in self.old) ask.now }
         ensures same { self.new ≡ self.old }
         ensures legal { IsLegal (program_of self.new) self.new.log }
-        ensures ok { (q : Request) → StandsFor ask.now q → IfOk result (λ ds. ds.items ≡ read_from (schema_in self.old) (docs_at self.old.log ts) q) }
+        ensures ok { (q : StoreRead) → StandsFor ask.now q → IfOk result (λ ds. ds.items ≡ read_from (schema_in self.old) (docs_at self.old.log ts) q) }
     {
         match ask {
             ReadReq::Get { id } => self.get(alloc, ts, id),
@@ -136,6 +136,7 @@ impl Core {
         ensures legal { IsLegal (program_of self.new) self.new.log }
         ensures ok { IfOk result (λ l. l ≡ Look.Miss) }
     {
+        // A look at a field brings what holds of each core: its log is legal.
         let _log = &self.log;
         Ok(Look::Miss)
     }
@@ -154,12 +155,14 @@ impl Core {
         ensures same { self.new ≡ self.old }
         ensures legal { IsLegal (program_of self.new) self.new.log }
     {
+        // A look at a field brings what holds of each core: its log is legal.
         let _log = &self.log;
         Ok(())
     }
 
     /// Makes all room for the commit of a proposal and the marks of its entry; where its session's request
-    /// has an entry already, it copies that entry's reply. The log and the documents stay as they are.
+    /// has an entry already, it copies that entry's reply. The log and the documents stay as they are, and
+    /// what was prepared before for other proposals stays ready.
     pub fn prepare(&mut self, alloc: Global, p: &Proposal) -> Result<Ready, Memory>
         ensures program { self.new.tree ≡ self.old.tree }
         ensures log { self.new.log ≡ self.old.log }
@@ -167,6 +170,7 @@ impl Core {
         ensures rows { (table index : ℕ) → entries_at table index self.new.rows.tables ≡ entries_at table index self.old.rows.tables }
         ensures legal { IsLegal (program_of self.new) self.new.log }
         ensures ok { IfOk result (λ r. IsReady self.new p.entry.now r) }
+        ensures others { (q : Proposal) (r : Ready) → IsReady self.old q r → IsReady self.new q r }
     {
         match kept_reply(alloc, &self.log, p.call.session, p.call.request)? {
             Some((ts, reply)) => Ok(Ready::new(Prepared::Known { ts, reply })),
@@ -187,6 +191,7 @@ impl Core {
         ensures legal { IsLegal (program_of self.new) self.new.log }
         ensures ok { Ends self.old self.new p result }
     {
+        // A look at a field brings what holds of each core: its log is legal.
         let _log = &self.log;
         match ready.into_prepared() {
             Prepared::Known { ts, reply } => Ended::Known { ts, reply },
@@ -322,6 +327,9 @@ fn make_room(
     ensures docs { rows.new.docs ≡ rows.old.docs }
     ensures shape { shape rows.new.tables ≡ shape rows.old.tables }
     ensures rows { (table index : ℕ) → entries_at table index rows.new.tables ≡ entries_at table index rows.old.tables }
+    ensures spare { log.old.spare ≤ log.new.spare }
+    ensures versions { rows.old.spare ≤ rows.new.spare }
+    ensures spares { (table index : ℕ) → spare_at table index rows.old.tables ≤ spare_at table index rows.new.tables }
     ensures ok { IfOk result (λ r. IsRoom (state_of checked.now.tree log.new rows.new) p.entry.now r) }
 {
     let schema = checked.schema();

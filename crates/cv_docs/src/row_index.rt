@@ -25,6 +25,7 @@ pub trait RowIndex: Drop {
     /// Makes room for `n` entries more.
     fn reserve(&mut self, n: usize) -> Result<(), Memory>
         ensures entries { entries self.new ≡ entries self.old }
+        ensures spare { spare self.old ≤ spare self.new }
         ensures room { OnOk result (n ≤ spare self.new) };
 
     /// Says what stands at a key from a timestamp on: the version with this number, or nothing. It takes

@@ -36,6 +36,7 @@ impl Versions {
     /// Makes room for `n` documents more.
     pub fn reserve(&mut self, n: usize) -> Result<(), Memory>
         ensures docs { self.new.docs ≡ self.old.docs }
+        ensures spare { self.old.spare ≤ self.new.spare }
         ensures room { OnOk result (n ≤ self.new.spare) }
     {
         self.docs.reserve(n)?;

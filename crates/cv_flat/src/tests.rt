@@ -76,6 +76,33 @@ fn n_of(alloc: Global, doc: &Doc) -> Result<i64, Memory> {
     }
 }
 
+// A scan of at most so many rows at ts, against the order or not, and the n of what it is to give.
+#[derive(Clone, Copy)]
+struct Scan<'a> {
+    ts: u64,
+    desc: bool,
+    rows: u32,
+    ns: &'a [i64],
+}
+
+fn onward(ts: u64, rows: u32, ns: &[i64]) -> Scan<'_> {
+    Scan {
+        ts,
+        desc: false,
+        rows,
+        ns,
+    }
+}
+
+fn back(ts: u64, rows: u32, ns: &[i64]) -> Scan<'_> {
+    Scan {
+        ts,
+        desc: true,
+        rows,
+        ns,
+    }
+}
+
 #[derive(Drop)]
 struct Stored<I> {
     docs: Versions,
@@ -130,24 +157,30 @@ impl<I: RowIndex> Stored<I> {
         Ok(())
     }
 
-    // Whether a scan of at most so many rows at ts gives documents with these n.
-    fn gives(
-        &self,
-        alloc: Global,
-        ts: u64,
-        i: &Interval,
-        desc: bool,
-        rows: u32,
-        ns: &[i64],
-    ) -> Result<bool, Memory>
+    // The n of what a scan gives.
+    fn found(&self, alloc: Global, i: &Interval, scan: &Scan) -> Result<Vec<i64>, Memory>
         requires { AreKnown (length self.now.docs.docs) (I.entries self.now.rows) }
     {
-        let docs = self.rows.scan(alloc, &self.docs, ts, i, desc, rows, 100)?;
+        let docs = self
+            .rows
+            .scan(alloc, &self.docs, scan.ts, i, scan.desc, scan.rows, 100)?;
         let mut found = Vec::new(alloc);
         for doc in &docs {
             found.push(n_of(alloc, doc)?)?;
         }
-        Ok(found.as_slice() == ns)
+        Ok(found)
+    }
+
+    // The first of these scans that gives other documents.
+    fn other(&self, alloc: Global, i: &Interval, scans: &[Scan]) -> Result<Option<usize>, Memory>
+        requires { AreKnown (length self.now.docs.docs) (I.entries self.now.rows) }
+    {
+        for (k, scan) in scans.iter().enumerate() {
+            if self.found(alloc, i, scan)?.as_slice() != scan.ns {
+                return Ok(Some(k));
+            }
+        }
+        Ok(None)
     }
 }
 
@@ -163,61 +196,96 @@ fn three_rows(alloc: Global) -> Result<Stored<FlatRows>, Memory>
     Ok(stored)
 }
 
-#[test]
-fn a_phantom_shows_from_its_timestamp_on(rt: HostRuntime) -> Result<(), Fail> {
-    let alloc = rt.alloc();
-    let i = interval(
+fn from_ten_to_twenty(alloc: Global) -> Result<Interval, Fail> {
+    interval(
         alloc,
         Bound::Including(Val::Int(10)),
         Bound::Excluding(Val::Int(20)),
-    )?;
+    )
+}
+
+#[test]
+fn a_phantom_shows_from_its_timestamp_on(rt: HostRuntime) -> Result<(), Fail> {
+    let alloc = rt.alloc();
+    let i = from_ten_to_twenty(alloc)?;
     let mut stored = Stored::<FlatRows>::new(alloc);
     stored.put(alloc, 1, 1, 15)?;
-    assert!(rt; stored.gives(alloc, 0, &i, false, 9, &[])?);
-    assert!(rt; stored.gives(alloc, 1, &i, false, 9, &[15])?);
-    assert!(rt; stored.gives(alloc, 2, &i, false, 9, &[15])?);
+    let scans = [onward(0, 9, &[]), onward(1, 9, &[15]), onward(2, 9, &[15])];
+    assert_eq!(rt; stored.other(alloc, &i, &scans)?, None);
     Ok(())
+}
+
+// Rows of 20 at timestamp 1, and of 10 at timestamp 2.
+fn two_ends(alloc: Global) -> Result<Stored<FlatRows>, Memory>
+    ensures known { IfOk result (λ s. AreKnown (length s.docs.docs) s.rows.entries) }
+{
+    let mut stored = Stored::new(alloc);
+    stored.put(alloc, 1, 1, 20)?;
+    stored.put(alloc, 2, 2, 10)?;
+    Ok(stored)
 }
 
 #[test]
 fn a_row_at_the_upper_end_is_no_phantom(rt: HostRuntime) -> Result<(), Fail> {
     let alloc = rt.alloc();
-    let i = interval(
-        alloc,
-        Bound::Including(Val::Int(10)),
-        Bound::Excluding(Val::Int(20)),
-    )?;
-    let mut stored = Stored::<FlatRows>::new(alloc);
-    stored.put(alloc, 1, 1, 20)?;
-    stored.put(alloc, 2, 2, 10)?;
-    assert!(rt; stored.gives(alloc, 1, &i, false, 9, &[])?);
-    assert!(rt; stored.gives(alloc, 2, &i, false, 9, &[10])?);
-    assert!(rt; stored.gives(alloc, 2, &whole(alloc)?, false, 9, &[10, 20])?);
-    assert!(rt; stored.gives(alloc, 2, &whole(alloc)?, true, 9, &[20, 10])?);
+    let i = from_ten_to_twenty(alloc)?;
+    let scans = [onward(1, 9, &[]), onward(2, 9, &[10])];
+    assert_eq!(rt; two_ends(alloc)?.other(alloc, &i, &scans)?, None);
     Ok(())
 }
 
 #[test]
-fn a_cut_scan_sees_moved_rows(rt: HostRuntime) -> Result<(), Fail> {
+fn a_row_at_the_upper_end_is_in_the_whole(rt: HostRuntime) -> Result<(), Fail> {
     let alloc = rt.alloc();
     let i = whole(alloc)?;
+    let scans = [onward(2, 9, &[10, 20]), back(2, 9, &[20, 10])];
+    assert_eq!(rt; two_ends(alloc)?.other(alloc, &i, &scans)?, None);
+    Ok(())
+}
+
+// What scans give of the three rows, after the document of r went from n = r to another at 4.
+fn moved(
+    alloc: Global,
+    r: u32,
+    to: i64,
+    i: &Interval,
+    scans: &[Scan],
+) -> Result<Option<usize>, Memory> {
     let mut stored = three_rows(alloc)?;
-    stored.set(alloc, 4, 3, 3, 5)?;
-    assert!(rt; stored.gives(alloc, 0, &i, false, 2, &[])?);
-    assert!(rt; stored.gives(alloc, 1, &i, false, 2, &[1])?);
-    assert!(rt; stored.gives(alloc, 3, &i, false, 2, &[1, 2])?);
-    assert!(rt; stored.gives(alloc, 4, &i, false, 2, &[1, 2])?);
-    assert!(rt; stored.gives(alloc, 3, &i, false, 9, &[1, 2, 3])?);
-    assert!(rt; stored.gives(alloc, 4, &i, false, 9, &[1, 2, 5])?);
-    assert!(rt; stored.gives(alloc, 4, &i, false, 0, &[])?);
-    let mut stored = three_rows(alloc)?;
-    stored.set(alloc, 4, 2, 2, 5)?;
-    assert!(rt; stored.gives(alloc, 3, &i, false, 2, &[1, 2])?);
-    assert!(rt; stored.gives(alloc, 4, &i, false, 2, &[1, 3])?);
-    let mut stored = three_rows(alloc)?;
-    stored.set(alloc, 4, 3, 3, 0)?;
-    assert!(rt; stored.gives(alloc, 3, &i, false, 2, &[1, 2])?);
-    assert!(rt; stored.gives(alloc, 4, &i, false, 2, &[0, 1])?);
+    stored.set(alloc, 4, r, i64::from(r), to)?;
+    stored.other(alloc, i, scans)
+}
+
+#[test]
+fn a_cut_scan_sees_a_row_that_went_behind_it(rt: HostRuntime) -> Result<(), Fail> {
+    let alloc = rt.alloc();
+    let scans = [
+        onward(0, 2, &[]),
+        onward(1, 2, &[1]),
+        onward(2, 2, &[1, 2]),
+        onward(3, 2, &[1, 2]),
+        onward(4, 2, &[1, 2]),
+        onward(3, 9, &[1, 2, 3]),
+        onward(4, 9, &[1, 2, 5]),
+        onward(4, 0, &[]),
+    ];
+    assert_eq!(rt; moved(alloc, 3, 5, &whole(alloc)?, &scans)?, None);
+    Ok(())
+}
+
+#[test]
+fn a_cut_scan_sees_a_row_that_left_it(rt: HostRuntime) -> Result<(), Fail> {
+    let alloc = rt.alloc();
+    let scans = [onward(3, 2, &[1, 2]), onward(4, 2, &[1, 3])];
+    assert_eq!(rt; moved(alloc, 2, 5, &whole(alloc)?, &scans)?, None);
+    Ok(())
+}
+
+#[test]
+fn a_cut_scan_sees_a_row_that_came_before_it(rt: HostRuntime) -> Result<(), Fail> {
+    let alloc = rt.alloc();
+    let scans = [onward(3, 2, &[1, 2]), onward(4, 2, &[0, 1])];
+    assert_eq!(rt; moved(alloc, 3, 0, &whole(alloc)?, &scans)?, None);
     Ok(())
 }
 
@@ -225,10 +293,14 @@ fn a_cut_scan_sees_moved_rows(rt: HostRuntime) -> Result<(), Fail> {
 fn a_moved_row_leaves_the_interval(rt: HostRuntime) -> Result<(), Fail> {
     let alloc = rt.alloc();
     let i = interval(alloc, Bound::None, Bound::Excluding(Val::Int(3)))?;
-    let mut stored = three_rows(alloc)?;
-    stored.set(alloc, 4, 2, 2, 8)?;
-    assert!(rt; stored.gives(alloc, 3, &i, false, 9, &[1, 2])?);
-    assert!(rt; stored.gives(alloc, 4, &i, false, 9, &[1])?);
+    let scans = [
+        onward(0, 9, &[]),
+        onward(1, 9, &[1]),
+        onward(2, 9, &[1, 2]),
+        onward(3, 9, &[1, 2]),
+        onward(4, 9, &[1]),
+    ];
+    assert_eq!(rt; moved(alloc, 2, 8, &i, &scans)?, None);
     Ok(())
 }
 
@@ -238,10 +310,15 @@ fn the_last_rows_come_first_against_the_order(rt: HostRuntime) -> Result<(), Fai
     let i = whole(alloc)?;
     let mut stored = three_rows(alloc)?;
     stored.put(alloc, 4, 4, 2)?;
-    assert!(rt; stored.gives(alloc, 3, &i, true, 2, &[3, 2])?);
-    assert!(rt; stored.gives(alloc, 4, &i, true, 2, &[3, 2])?);
     stored.put(alloc, 5, 5, 4)?;
-    assert!(rt; stored.gives(alloc, 4, &i, true, 2, &[3, 2])?);
-    assert!(rt; stored.gives(alloc, 5, &i, true, 2, &[4, 3])?);
+    let scans = [
+        back(0, 2, &[]),
+        back(1, 2, &[1]),
+        back(2, 2, &[2, 1]),
+        back(3, 2, &[3, 2]),
+        back(4, 2, &[3, 2]),
+        back(5, 2, &[4, 3]),
+    ];
+    assert_eq!(rt; stored.other(alloc, &i, &scans)?, None);
     Ok(())
 }

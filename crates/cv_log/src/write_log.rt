@@ -111,6 +111,7 @@ impl WriteLog {
     pub fn reserve(&mut self) -> Result<(), Memory>
         ensures entries { self.new.entries ≡ self.old.entries }
         ensures marks { self.new.marks ≡ self.old.marks }
+        ensures spare { self.old.spare ≤ self.new.spare }
         ensures room { OnOk result (0 < self.new.spare) }
     {
         self.marked.reserve(1)?;

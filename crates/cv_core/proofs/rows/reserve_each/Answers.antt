@@ -12,8 +12,9 @@ loop-change-preserved c =
     record {
       shapes = c.reserve_one.ensures.shape ∙ c.loop-change.invariant.shapes;
       rows = λ t i. c.reserve_one.ensures.rows t i ∙ c.loop-change.invariant.rows t i;
+      spare = λ t i. (let before = c.loop-change.invariant.spare t i in let step = c.reserve_one.ensures.spare t i in omega (arith, before, step));
       room = subst (AllByRecursion (λ y. each ≤ spare_at y.table y.index new)) (sym (to_place cs at x (omega (arith, c.loop-change-test.true)) c.change-item.is))
           (all_append (λ y. each ≤ spare_at y.table y.index new) (take at cs) (x ∷ [])
-          (all_stay each x.table x.index c.loop-change.tables.items new c.in_ok-reserve_one.ensures.room c.reserve_one.ensures.others (take at cs) c.loop-change.invariant.room)
+          (all_stay each c.loop-change.tables.items new c.reserve_one.ensures.spare (take at cs) c.loop-change.invariant.room)
           (c.in_ok-reserve_one.ensures.room, tt));
     }

@@ -8,5 +8,6 @@ abbrev pub invariant-loop-change : goal.invariant-loop-change
 invariant-loop-change l = record {
   shapes : shape l.tables.items ≡ shape l.initial.tables.items;
   rows : (table index : ℕ) → entries_at table index l.tables.items ≡ entries_at table index l.initial.tables.items;
+  spare : (table index : ℕ) → spare_at table index l.initial.tables.items ≤ spare_at table index l.tables.items;
   room : AllByRecursion (λ c. l.each ≤ spare_at c.table c.index l.tables.items) (take l.change-index l.changes);
 }
