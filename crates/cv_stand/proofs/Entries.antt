@@ -1,12 +1,14 @@
 -- The entry of a session's request in a history.
-use Rattle.std.proofs.Common.{◌≡◌, ℕ, zero, suc, ◌+◌, ◌-◌, ◌<◌, ◌≤◌, List, [], ◌∷◌, ◌++◌, Bool, true, false, cond, length, eq-eqb, Option, Some, None, refl, sym, ap, ◌∙◌, arith, get_or}
-use Rattle.std.specs.Prelude.{◌≢◌, is_some, slice_get, map, option_map}
+use Rattle.std.proofs.Common.{◌≡◌, ℕ, ◌+◌, [], ◌∷◌, ◌++◌, Bool, true, false, cond, length, eq-eqb, Option, Some, None, refl, sym, ap, ◌∙◌, arith}
+use Rattle.std.specs.Prelude.{◌≢◌, is_some}
 use Rattle.fn_tree.specs.Course.{Reply}
 use Rattle.fn_tree.specs.History.{Entry, History, Pair, HasNoPair, pair_of}
 use Rattle.fn_tree.specs.SyntaxTree.{ModuleTree}
 use Rattle.fn_tree.specs.declared.entry.Call.{Call}
 use Rattle.cv_store.specs.Kept.{is_of}
-use Rattle.cv_stand.specs.Plays.{after_call, found, next_entry}
+use Rattle.cv_store.specs.Jobs.{one_more}
+use Rattle.cv_stand.specs.Events.{calls}
+use Rattle.cv_stand.specs.Plays.{after_call, found, next_entry, request_of, runs_after}
 
 abbrev Found : Type 0
 Found = ℕ × Reply
@@ -80,3 +82,10 @@ after_known m h call f e = rw e
 
 pub after_new : (m : ModuleTree) (h : History) (call : Call) → found 0 h (pair_in call) ≡ None → after_call m h call ≡ h ++ next_entry m h call ∷ []
 after_new m h call e = rw e
+
+-- and the runs that it starts
+pub counts_known : (h : History) (call : Call) (f : ℕ × Reply) (n : ℕ) → found 0 h (pair_in call) ≡ Some f → runs_after h (calls (request_of call)) n ≡ n
+counts_known h call f n e = rw e
+
+pub counts_new : (h : History) (call : Call) (n : ℕ) → found 0 h (pair_in call) ≡ None → runs_after h (calls (request_of call)) n ≡ one_more n
+counts_new h call n e = rw e

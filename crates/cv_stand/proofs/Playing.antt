@@ -1,5 +1,5 @@
 -- A call that is played over a store whose log is its own entries.
-use Rattle.std.proofs.Common.{◌≡◌, ℕ, ◌+◌, ◌-◌, ◌<◌, ◌≤◌, Bool, true, false, cond, List, [], ◌∷◌, ◌++◌, length, drop, take, Option, Some, None, option_map, refl, sym, ap, ◌∙◌, subst, arith, append-nil}
+use Rattle.std.proofs.Common.{◌≡◌, ℕ, ◌+◌, ◌<◌, Bool, true, false, cond, List, [], ◌∷◌, ◌++◌, length, drop, Option, Some, None, refl, sym, ap, ◌∙◌, subst, arith, append-nil}
 use Rattle.std.specs.Prelude.{nat_lt, MatchBool}
 use Rattle.std.proofs.lemmas.Bool.{ltb-true}
 use Rattle.std.proofs.lemmas.List.{drop_all, take_all, length-append}
@@ -12,10 +12,10 @@ use Rattle.fn_tree.specs.Run.{Run, run}
 use Rattle.fn_tree.specs.SyntaxTree.{ModuleTree}
 use Rattle.fn_tree.specs.declared.entry.Call.{Call}
 use Rattle.fn_tree.specs.declared.entry.Reply.{Reply as HeldReply}
-use Rattle.cv_store.specs.FirstTouch.{first_touch, by_key, entries_touch}
-use Rattle.cv_store.specs.Jobs.{Under, Steps, StepsBegin, StepsRead, StepsCommit, reads_of as reads_under, begun_as, ended_as, under_of}
+use Rattle.cv_store.specs.FirstTouch.{by_key, entries_touch}
+use Rattle.cv_store.specs.Jobs.{Under, Steps, StepsBegin, StepsRead, StepsCommit, reads_of as reads_under, begun_as, ended_as, one_more, runs_begun, under_of}
 use Rattle.cv_store.specs.Kept.{kept}
-use Rattle.cv_store.specs.Stores.{Extends, Reads, Begins, Commits, IsRunOf, entry_of}
+use Rattle.cv_store.specs.Stores.{Extends, Reads, Begins, Commits, entry_of}
 use Rattle.cv_store.specs.declared.conflict.Conflict.{Conflict}
 use Rattle.cv_store.specs.declared.job.JobWent.{JobWent}
 use Rattle.cv_store.specs.declared.job.JobWent.TheVariants.{Moved, SentBack, Done}
@@ -23,10 +23,10 @@ use Rattle.cv_store.specs.declared.proposal.Begun.{Begun}
 use Rattle.cv_store.specs.declared.proposal.Begun.TheVariants as begun
 use Rattle.cv_store.specs.declared.proposal.Ended.{Ended}
 use Rattle.cv_store.specs.declared.proposal.Ended.TheVariants as ended
-use Rattle.cv_store.specs.declared.proposal.Proposal.{Proposal}
-use Rattle.cv_stand.specs.Plays.{after_call, next_entry}
-use Rattle.cv_stand.specs.Underway.{reads_of, RunsOn, IsAt, InCall, steps_left, IsPlayed, GoesOn, Stepped}
-use Rattle.cv_stand.proofs.Entries.{pair_in, found_end, own_pair, after_known, after_new}
+use Rattle.cv_stand.specs.Events.{calls}
+use Rattle.cv_stand.specs.Plays.{next_entry, request_of, runs_after}
+use Rattle.cv_stand.specs.Underway.{reads_on_latest, IsAt, InCall, started, steps_left, IsPlayed, OneStepMore}
+use Rattle.cv_stand.proofs.Entries.{pair_in, found_end, own_pair, after_known, after_new, counts_known, counts_new}
 
 abbrev head_of : List ℕ → ℕ
 head_of [] = 0
@@ -75,7 +75,7 @@ module _ (m : ModuleTree) (call : Call) (s t : Solo) where
 
   -- ---- a begin
 
-  begin_moves : (v : Option Under) (runs runs' : ℕ) → InCall m call s None → StepsBegin (stands_of s) (stands_of t) call v runs runs' Moved → GoesOn m call s t None v
+  begin_moves : (v : Option Under) (runs runs' : ℕ) → InCall m call s None → StepsBegin (stands_of s) (stands_of t) call v runs runs' Moved → OneStepMore m call s t None v
   begin_moves v runs runs' i b = go b.begun b.begins b.under b.told
     where
       log : t.core.log ≡ s.core.log
@@ -84,7 +84,7 @@ module _ (m : ModuleTree) (call : Call) (s t : Solo) where
       program : program_of t.core ≡ m
       program = b.store.extends.program ∙ i.program
 
-      go : (x : Begun) → Begins (stands_of t) call.session call.request x → v ≡ under_of (stands_of t) call x → Moved ≡ begun_as x → GoesOn m call s t None v
+      go : (x : Begun) → Begins (stands_of t) call.session call.request x → v ≡ under_of (stands_of t) call x → Moved ≡ begun_as x → OneStepMore m call s t None v
       go (begun.Fresh ts) begins under told = record {
         log = log;
         in_call = record {
@@ -100,7 +100,7 @@ module _ (m : ModuleTree) (call : Call) (s t : Solo) where
           });
         };
         fewer = subst (λ (u : Option Under). steps_left m call t.core.log u < steps_left m call s.core.log None) (sym under)
-            (let same = ap (reads_of m call) log in omega (arith, same));
+            (let same = ap (reads_on_latest m call) log in omega (arith, same));
       }
       go (begun.Known ts reply) begins under told = absurd (unlike Moved (Done ts reply) told (omega arith))
 
@@ -133,10 +133,10 @@ module _ (m : ModuleTree) (call : Call) (s t : Solo) where
   -- ---- a run under way
 
   module _ (u : Under) (v : Option Under) (runs runs' : ℕ) (i : InCall m call s (Some u)) where
-    same_reads : reads_under (stands_of s) u ≡ reads_of m call s.core.log
+    same_reads : reads_under (stands_of s) u ≡ reads_on_latest m call s.core.log
     same_reads = ap (λ (r : Run). length r.reads) (run_there (program_of s.core) u.call u.snapshot i.program i.at.same_call i.at.snapshot)
 
-    read_moves : nat_lt u.reads (reads_under (stands_of s) u) ≡ true → StepsRead (stands_of s) (stands_of t) u v runs runs' Moved → GoesOn m call s t (Some u) v
+    read_moves : nat_lt u.reads (reads_under (stands_of s) u) ≡ true → StepsRead (stands_of s) (stands_of t) u v runs runs' Moved → OneStepMore m call s t (Some u) v
     read_moves more r = record {
       log = log;
       in_call = record {
@@ -157,10 +157,10 @@ module _ (m : ModuleTree) (call : Call) (s t : Solo) where
         log : t.core.log ≡ s.core.log
         log = log_stays s t i.start r.store
 
-        same : reads_of m call t.core.log ≡ reads_of m call s.core.log
-        same = ap (reads_of m call) log
+        same : reads_on_latest m call t.core.log ≡ reads_on_latest m call s.core.log
+        same = ap (reads_on_latest m call) log
 
-        less : u.reads < reads_of m call s.core.log
+        less : u.reads < reads_on_latest m call s.core.log
         less = let d = same_reads in let l = ltb-true u.reads (reads_under (stands_of s) u) more in omega (arith, l, d)
 
     read_told : (went : JobWent) → StepsRead (stands_of s) (stands_of t) u v runs runs' went → moment went ≡ 0
@@ -226,12 +226,12 @@ module _ (m : ModuleTree) (call : Call) (s t : Solo) where
 
   -- ---- any step
 
-  pub moves : (u v : Option Under) (runs runs' : ℕ) → InCall m call s u → Steps (stands_of s) (stands_of t) call u v runs runs' Moved → GoesOn m call s t u v
+  pub moves : (u v : Option Under) (runs runs' : ℕ) → InCall m call s u → Steps (stands_of s) (stands_of t) call u v runs runs' Moved → OneStepMore m call s t u v
   moves None v runs runs' i b = begin_moves v runs runs' i b
   moves (Some u) v runs runs' i b = go (nat_lt u.reads (reads_under (stands_of s) u)) refl b
     where
       go : (d : Bool) → nat_lt u.reads (reads_under (stands_of s) u) ≡ d → MatchBool d (StepsRead (stands_of s) (stands_of t) u v runs runs' Moved) (StepsCommit (stands_of s) (stands_of t) u v runs runs' Moved)
-          → GoesOn m call s t (Some u) v
+          → OneStepMore m call s t (Some u) v
       go true more r = read_moves u v runs runs' i more r
       go false e c = absurd (commit_moves u v runs runs' i Moved c refl)
 
@@ -252,3 +252,35 @@ module _ (m : ModuleTree) (call : Call) (s t : Solo) where
           → IsPlayed m call s t ts reply × (v ≡ None)
       go true r = let n = read_told u v runs runs' i (Done ts reply) r in absurd (omega (arith, n))
       go false c = (commit_done u v runs runs' i (Done ts reply) c ts reply refl, c.under)
+
+  -- ---- the runs that are started
+
+  pub counts_moves : (u v : Option Under) (runs runs' first : ℕ) → InCall m call s u → Steps (stands_of s) (stands_of t) call u v runs runs' Moved → runs ≡ started u first → runs' ≡ started v first
+  counts_moves None v runs runs' first i b before = go b.begun b.under b.counted b.told
+    where
+      go : (x : Begun) → v ≡ under_of (stands_of t) call x → runs' ≡ runs_begun x runs → Moved ≡ begun_as x → runs' ≡ started v first
+      go (begun.Fresh ts) under counted told = counted ∙ ap one_more before ∙ ap (λ (w : Option Under). started w first) (sym under)
+      go (begun.Known ts reply) under counted told = absurd (unlike Moved (Done ts reply) told (omega arith))
+  counts_moves (Some u) v runs runs' first i b before = go (nat_lt u.reads (reads_under (stands_of s) u)) b
+    where
+      go : (d : Bool) → MatchBool d (StepsRead (stands_of s) (stands_of t) u v runs runs' Moved) (StepsCommit (stands_of s) (stands_of t) u v runs runs' Moved) → runs' ≡ started v first
+      go true r = r.counted ∙ before ∙ ap (λ (w : Option Under). started w first) (sym r.under)
+      go false c = absurd (commit_moves u v runs runs' i Moved c refl)
+
+  pub counts_ends : (u v : Option Under) (runs runs' ts first : ℕ) (reply : HeldReply) → InCall m call s u → Steps (stands_of s) (stands_of t) call u v runs runs' (Done ts reply)
+      → runs ≡ started u first → runs' ≡ runs_after s.core.log (calls (request_of call)) first
+  counts_ends None v runs runs' ts first reply i b before = go b.begun b.begins b.counted b.told
+    where
+      log : t.core.log ≡ s.core.log
+      log = log_stays s t i.start b.store
+
+      go : (x : Begun) → Begins (stands_of t) call.session call.request x → runs' ≡ runs_begun x runs → Done ts reply ≡ begun_as x → runs' ≡ runs_after s.core.log (calls (request_of call)) first
+      go (begun.Fresh n) begins counted told = absurd (unlike Moved (Done ts reply) (sym told) (omega arith))
+      go (begun.Known n kept_reply) begins counted told =
+          counted ∙ before ∙ sym (counts_known s.core.log call (n, reply_view kept_reply) first (ap (kept call.session call.request) (sym log) ∙ begins))
+  counts_ends (Some u) v runs runs' ts first reply i b before = go (nat_lt u.reads (reads_under (stands_of s) u)) b
+    where
+      go : (d : Bool) → MatchBool d (StepsRead (stands_of s) (stands_of t) u v runs runs' (Done ts reply)) (StepsCommit (stands_of s) (stands_of t) u v runs runs' (Done ts reply))
+          → runs' ≡ runs_after s.core.log (calls (request_of call)) first
+      go true r = let n = read_told u v runs runs' i (Done ts reply) r in absurd (omega (arith, n))
+      go false c = c.counted ∙ before ∙ sym (counts_new s.core.log call first i.at.new)

@@ -8,8 +8,8 @@ use Rattle.std.specs.Str.Parse.{ParsesSigned, ParsesUnsigned, digits_value}
 use Rattle.std.proofs.lemmas.Str.Parse.{IsNumeralModel, numerals_by_value, parse_digits, parse_signed_digits, parse_signed_minus}
 use Rattle.std.proofs.lemmas.Bool.{and_parts}
 use Rattle.std.proofs.lemmas.Bool.Decides.{Decides-ltb, leb_tells}
-use Rattle.cv_stand.specs.Events.{number_of, at_least_zero, below_zero}
-use Rattle.cv_stand.specs.ScriptLine.{request_of}
+use Rattle.cv_stand.specs.Events.{at_least_zero, below_zero}
+use Rattle.cv_stand.specs.ScriptLine.{number_of, request_number}
 
 own : IsNumeralModel (λ ds. list_all is_ascii_digit ds ≡ true) (digits_value 10)
 own = numerals_by_value _ (search rules)
@@ -44,7 +44,7 @@ no_number w e = cond_false (passes w) (digits_value 10 w) e
 
 -- ---- requests
 
-pub request_parsed : {E : Type 0} (w : List ℕ) (r : Result ℕ E) → ParsesUnsigned 32 10 w r → IsNumber w → result_ok r ≡ request_of w
+pub request_parsed : {E : Type 0} (w : List ℕ) (r : Result ℕ E) → ParsesUnsigned 32 10 w r → IsNumber w → result_ok r ≡ request_number w
 request_parsed {E} w (Ok x) p n =
     let h = parse_digits own {E = E} 32 w (Ok x) p n.digits in
     let small : nat_lt (digits_value 10 w) (2 ^ 32) ≡ true = (Decides-ltb (digits_value 10 w) (2 ^ 32)).1 h.0.1 in
@@ -56,7 +56,7 @@ request_parsed {E} w (Err e) p n =
       | inr t ↦ rw (n.test, t.0)
     ]
 
-pub no_request : (w : List ℕ) → is_some (number_of w) ≡ false → None ≡ request_of w
+pub no_request : (w : List ℕ) → is_some (number_of w) ≡ false → None ≡ request_number w
 no_request w e = rw (no_number w e)
 
 -- ---- moments

@@ -1,7 +1,7 @@
 -- How far lines have been written.
 use Rattle.std.proofs.Common.{◌≡◌, ℕ, suc, ◌+◌, ◌<◌, ◌≤◌, List, [], ◌∷◌, ◌++◌, length, get_or, drop, Option, None, Some, zero, refl, sym, ap, ◌∙◌, append_assoc, append-nil, add-one, drop-cons, subst, arith}
 use Rattle.std.specs.Prelude.{map, codes, slice_get}
-use Rattle.std.proofs.lemmas.List.{drop_all, drop-map, length-map}
+use Rattle.std.proofs.lemmas.List.{drop_all, drop-map}
 use Rattle.std.specs.Io.KnownBytes.{Appends}
 use Rattle.cv_outside.specs.Causes.{AppendsPart}
 use Rattle.fn_tree.specs.History.{Entry, History}

@@ -1,11 +1,10 @@
 -- Jobs that are stepped by turns over one store.
-use Rattle.std.proofs.Common.{◌≡◌, ℕ, Bool, true, false, List, [], ◌++◌, Option, Some, None, Result, Ok, Err, IfOk, refl, sym, ap, ◌∙◌, subst, append_assoc, append-nil}
+use Rattle.std.proofs.Common.{◌≡◌, ℕ, Bool, true, false, [], ◌++◌, Option, Some, None, Result, Ok, Err, IfOk, refl, sym, ap, ◌∙◌, subst, append_assoc, append-nil}
 use Rattle.std.specs.Prelude.{nat_lt, MatchBool, OnErr}
 use Rattle.cv_values.specs.declared.memory.Memory.{Memory}
-use Rattle.fn_tree.specs.SyntaxTree.{ModuleTree}
 use Rattle.fn_tree.specs.History.{History}
 use Rattle.fn_tree.specs.declared.entry.Call.{Call}
-use Rattle.cv_store.specs.Jobs.{Under, GoesOnOver, Steps, StepsBegin, StepsRead, StepsCommit, reads_of, under_of}
+use Rattle.cv_store.specs.Jobs.{Under, GoesOnOver, Steps, StepsRead, StepsCommit, reads_of, under_of}
 use Rattle.cv_store.specs.Stores.{Standing, GoesOn, Extends, Reads, Commits}
 use Rattle.cv_store.specs.declared.job.JobWent.{JobWent}
 use Rattle.cv_store.specs.declared.proposal.Begun.{Begun}
@@ -19,7 +18,7 @@ pub record Later (s t : Standing) : Type 0 where
   pub program : t.program ≡ s.program
   pub seen : GoesOn s.seen t.seen
 
-extended : (s t : Standing) (own : History) → Extends s t own → Later s t
+pub extended : (s t : Standing) (own : History) → Extends s t own → Later s t
 extended s t own e = record { program = e.program; seen = e.seen }
 
 pub read_later : (s t : Standing) → Reads s t → Later s t

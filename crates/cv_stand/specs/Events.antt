@@ -1,19 +1,16 @@
 -- What the lines of a script ask for: a moment of the clock, the run of a mutation, or the log.
-use Rattle.std.specs.Prelude.{ℕ, ◌+◌, ◌^◌, ℤ, pos, neg_ℤ, List, [], ◌∷◌, drop, ◌&&◌, ◌||◌, ◌==◌, not, nat_lt, nat_le, if◌then◌else◌, length, slice_index, Option, Some, None, codes, option_and_then}
+use Rattle.std.specs.Prelude.{ℕ, ◌+◌, ◌^◌, ℤ, pos, neg_ℤ, List, [], ◌∷◌, drop, ◌&&◌, ◌==◌, nat_lt, nat_le, if◌then◌else◌, length, slice_index, Option, Some, None, codes, option_and_then}
 use Rattle.std.specs.Option.{option_map}
 use Rattle.std.specs.Result.{result_ok}
-use Rattle.std.specs.List.{list_all}
-use Rattle.std.specs.Char.{is_ascii_digit}
 use Rattle.std.specs.Int.{w128, from_be_bytes}
 use Rattle.std.specs.Str.{bytes_eq}
 use Rattle.std.specs.Str.Lossy.{utf8_valid_len}
-use Rattle.std.specs.Str.Parse.{digits_value}
 use Rattle.uuid.specs.Text.{parsed}
 use Rattle.serde_json.specs.Read.{read as json_read}
 use Rattle.cv_json.specs.Reads.{read}
 use Rattle.cv_values.specs.Value.{Value, object, pairs_of}
 use Rattle.cv_stand.specs.Lines.{text_of}
-use Rattle.cv_stand.specs.ScriptLine.{cut_word, request_of, Words, words_of}
+use Rattle.cv_stand.specs.ScriptLine.{cut_word, number_of, request_number, Words, words_of}
 
 -- a call of a mutation, whatever the clock reads
 pub record Request : Type 0 where
@@ -31,10 +28,6 @@ pub data Event : Type 0 where
   tells_log : Event
 
 -- ---- a line that sets the clock
-
--- a number in decimal, without a leading zero
-abbrev pub number_of : List ℕ → Option ℕ
-number_of w = if list_all is_ascii_digit w && nat_lt 0 (length w) && (nat_lt (length w) 2 || not (slice_index w 0 == 48)) then Some (digits_value 10 w) else None
 
 -- the number, where it is one of 64 bits with a sign
 abbrev pub at_least_zero : ℕ → Option ℤ
@@ -68,7 +61,7 @@ abbrev pub request_from : Words → Option Request
 request_from w =
     option_and_then (λ session. option_and_then (λ request. option_and_then (λ args.
     if length w.udf == 0 then None else Some (record { session = from_be_bytes w128 session; request = request; udf = w.udf; args = args }))
-    (arguments_of w.json)) (request_of w.request)) (parsed w.session)
+    (arguments_of w.json)) (request_number w.request)) (parsed w.session)
 
 -- ---- a line
 

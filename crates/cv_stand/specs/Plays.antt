@@ -6,6 +6,7 @@ use Rattle.fn_tree.specs.History.{Entry, History, IsLegal, Pair, docs_after, sta
 use Rattle.fn_tree.specs.Run.{Run, run}
 use Rattle.fn_tree.specs.SyntaxTree.{ModuleTree}
 use Rattle.fn_tree.specs.declared.entry.Call.{Call}
+use Rattle.cv_store.specs.Jobs.{one_more}
 use Rattle.cv_store.specs.Kept.{kept_after}
 use Rattle.cv_stand.specs.EntryLines.{entry_lines, reply_line}
 use Rattle.cv_stand.specs.Events.{Event, sets_clock, calls, tells_log, Request}
@@ -68,6 +69,12 @@ abbrev pub output : ModuleTree → Stage → Event → List (List ℕ)
 output m s (sets_clock now) = []
 output m s (calls r) = told (after_request m s r) r
 output m s tells_log = entry_lines 0 s.history
+
+-- how many runs were started after an event: a call starts one, unless its request has an entry
+abbrev pub runs_after : History → Event → ℕ → ℕ
+runs_after h (sets_clock now) n = n
+runs_after h (calls r) n = if is_some (found 0 h (pair_in r)) then n else one_more n
+runs_after h tells_log n = n
 
 -- the lines that events wrote, and where they came to
 pub record Played : Type 0 where

@@ -9,9 +9,13 @@ use Rattle.std.specs.Str.Parse.{digits_value}
 abbrev pub cut_word : List ℕ → Option (List ℕ × List ℕ)
 cut_word s = if nat_lt (position_or_len (λ b. b == 32) s) (length s) then Some (before_first (λ b. b == 32) s, after_first (λ b. b == 32) s) else None
 
--- a number below 2^32 in decimal, without a leading zero
-abbrev pub request_of : List ℕ → Option ℕ
-request_of w = if list_all is_ascii_digit w && nat_lt 0 (length w) && (nat_lt (length w) 2 || not (slice_index w 0 == 48)) && nat_lt (digits_value 10 w) (2 ^ 32) then Some (digits_value 10 w) else None
+-- a number in decimal, without a leading zero
+abbrev pub number_of : List ℕ → Option ℕ
+number_of w = if list_all is_ascii_digit w && nat_lt 0 (length w) && (nat_lt (length w) 2 || not (slice_index w 0 == 48)) then Some (digits_value 10 w) else None
+
+-- such a number below 2^32
+abbrev pub request_number : List ℕ → Option ℕ
+request_number w = option_and_then (λ n. if nat_lt n (2 ^ 32) then Some n else None) (number_of w)
 
 pub record Words : Type 0 where
   pub session : List ℕ

@@ -101,8 +101,9 @@ pub(crate) fn write_entries<K: Sink>(
     ensures later { K.faults out.old ≤ K.faults out.new }
 {
     for i in 0..core.len() {
+        // Each number from 1 to the length has an entry.
         let Some(entry) = core.entry(i + 1) else {
-            return Ok(());
+            unreachable!()
         };
         let line = entry_text(alloc, i + 1, entry)?;
         write_line(out, line)?;

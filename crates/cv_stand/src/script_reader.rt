@@ -7,9 +7,9 @@ ghost use Rattle.std.specs.Char.{is_ascii_digit};
 ghost use Rattle.cv_json.specs.Reads.{read};
 ghost use Rattle.cv_values.specs.Trees.{tree};
 ghost use Rattle.serde_json.specs.View.{view};
-ghost use Rattle.cv_stand.specs.Events.{number_of, at_least_zero, below_zero, moment_of, clock_of, fields_of, arguments_of, calls, request_from, event_in, said, script_of};
+ghost use Rattle.cv_stand.specs.Events.{at_least_zero, below_zero, moment_of, clock_of, fields_of, arguments_of, calls, request_from, event_in, said, script_of};
 ghost use Rattle.cv_stand.specs.Lines.{lines_of};
-ghost use Rattle.cv_stand.specs.ScriptLine.{cut_word, request_of, words_of};
+ghost use Rattle.cv_stand.specs.ScriptLine.{cut_word, number_of, request_number, words_of};
 ghost use Rattle.cv_stand.specs.ScriptViews.{event_view, said_view, script_view, words_view};
 
 use crate::lines::{line_text, split_line};
@@ -131,7 +131,7 @@ fn read_clock(line: &str) -> Option<i64>
 }
 
 fn read_request(word: &str) -> Option<u32>
-    ensures { result ≡ request_of word.now }
+    ensures { result ≡ request_number word.now }
 {
     if !is_number(word.as_bytes()) {
         return None;

@@ -3,7 +3,9 @@ ghost use Rattle.std.specs.Prelude.{◌≡◌, ◌≢◌, ◌⊎◌, ◌≤◌, 
 ghost use Rattle.std.specs.Io.KnownBytes.{Appends};
 ghost use Rattle.cv_outside.specs.Causes.{AppendsPart, Rose};
 ghost use Rattle.fn_tree.specs.SyntaxViews.{module_view};
-ghost use Rattle.cv_stand.specs.Plays.{after, after_call, call_at, opening, output, request_of, told};
+ghost use Rattle.cv_store.specs.Jobs.{AtMostOne};
+ghost use Rattle.cv_stand.specs.Events.{calls};
+ghost use Rattle.cv_stand.specs.Plays.{after, after_call, call_at, opening, output, request_of, runs_after, told};
 ghost use Rattle.cv_stand.specs.ScriptViews.{event_view};
 ghost use Rattle.cv_stand.specs.Stands.{module_of};
 ghost use Rattle.cv_stand.specs.Texts.{with_feeds};
@@ -113,6 +115,8 @@ impl Stand {
         ensures history { OnOk result (self.new.stage.history ≡ after_call (module_of self.old) self.old.stage.history call.entry.now) }
         ensures done { OnOk result (Appends (K.held out.old) (K.held out.new) (with_feeds (told (after_call (module_of self.old) self.old.stage.history call.entry.now) (request_of call.entry.now)))) }
         ensures part { OnErr result (AppendsPart (K.held out.old) (K.held out.new) (with_feeds (told (after_call (module_of self.old) self.old.stage.history call.entry.now) (request_of call.entry.now)))) }
+        ensures runs { OnOk result (runs.new.count ≡ runs_after self.old.stage.history (calls (request_of call.entry.now)) runs.old.count) }
+        ensures tried { OnErr result (AtMostOne runs.old.count runs.new.count) }
         ensures fault { IfErr result (λ e. (e ≡ PlayFault.Write) ⊎ (e ≡ PlayFault.Memory)) }
         ensures write { result ≡ Err PlayFault.Write → Rose (K.faults out.old) (K.faults out.new) }
         ensures kept { result ≢ Err PlayFault.Write → K.faults out.new ≡ K.faults out.old }
@@ -124,8 +128,8 @@ impl Stand {
     }
 
     /// Plays an event: the clock reads its moment from then on; a call is run to its end, unless its
-    /// session's request has an entry, and the reply of the entry is told; or all entries are told. After a
-    /// fault the stand is only dropped.
+    /// session's request has an entry, and the reply of the entry is told; or all entries are told. `runs`
+    /// counts the runs that were started. After a fault the stand is only dropped.
     pub fn play<K: Sink>(
         &mut self,
         alloc: Global,
@@ -139,6 +143,8 @@ impl Stand {
         ensures after { OnOk result (self.new.stage ≡ after (module_of self.old) self.old.stage (event_view event.now)) }
         ensures done { OnOk result (Appends (K.held out.old) (K.held out.new) (with_feeds (output (module_of self.old) self.old.stage (event_view event.now)))) }
         ensures part { OnErr result (AppendsPart (K.held out.old) (K.held out.new) (with_feeds (output (module_of self.old) self.old.stage (event_view event.now)))) }
+        ensures runs { OnOk result (runs.new.count ≡ runs_after self.old.stage.history (event_view event.now) runs.old.count) }
+        ensures tried { OnErr result (AtMostOne runs.old.count runs.new.count) }
         ensures fault { IfErr result (λ e. (e ≡ PlayFault.Write) ⊎ (e ≡ PlayFault.Memory)) }
         ensures write { result ≡ Err PlayFault.Write → Rose (K.faults out.old) (K.faults out.new) }
         ensures kept { result ≢ Err PlayFault.Write → K.faults out.new ≡ K.faults out.old }

@@ -6,7 +6,7 @@ use cv_run::RunJob;
 use cv_store::{Job, JobWent, Runs};
 use cv_values::{Fields, Memory, Text};
 use fn_load::{Program, load};
-use fn_tree::{Call, Reply};
+use fn_tree::{Call, Query, Reply};
 use std::alloc::Global;
 use std::marker::Model;
 use std::test::Fail;
@@ -53,20 +53,26 @@ fn no_call(alloc: Global) -> Result<Call, Memory> {
     })
 }
 
-impl Two {
-    fn new(alloc: Global, program: Program) -> Result<Two, Memory> {
-        let core = Core::new(alloc, program.checked.copy(alloc)?)?;
-        Ok(Two {
-            program,
-            store: SoloStore::new(core),
-            first: RunJob::new(alloc),
-            first_call: no_call(alloc)?,
-            second: RunJob::new(alloc),
-            second_call: no_call(alloc)?,
-            runs: Runs { count: 0 },
-        })
-    }
+// Two jobs at a begin over a store with an empty log.
+fn open(alloc: Global, module: &str) -> Result<Two, Fail> {
+    let first_call = no_call(alloc)?;
+    let second_call = no_call(alloc)?;
+    let Ok(program) = load(alloc, module.as_bytes()) else {
+        return Err(Fail::from("no program"));
+    };
+    let core = Core::new(alloc, program.checked.copy(alloc)?)?;
+    Ok(Two {
+        program,
+        store: SoloStore::new(core),
+        first: RunJob::new(alloc),
+        first_call,
+        second: RunJob::new(alloc),
+        second_call,
+        runs: Runs { count: 0 },
+    })
+}
 
+impl Two {
     fn begin_first(&mut self, alloc: Global, call: Call) {
         self.first = RunJob::new(alloc);
         self.first_call = call;
@@ -107,6 +113,34 @@ impl Two {
         }
         Err(Fail::from("no end"))
     }
+
+    // The answer of a query at the end of the log, and how many intervals its run read.
+    fn answer(&mut self, alloc: Global, query: &Query) -> Result<(Reply, usize), Memory> {
+        let end = self.store.core().len();
+        let answered = self.first.answer(
+            alloc,
+            &self.program,
+            &mut self.store,
+            query,
+            end,
+            &mut self.runs,
+        );
+        let (reply, reads) = answered?;
+        Ok((reply, reads.len()))
+    }
+}
+
+fn reply_told(alloc: Global, ts: u64, reply: &Reply) -> Result<String, Fail> {
+    match reply {
+        Reply::Value(value) => {
+            let json = to_json(alloc, value)?.to_string(alloc)?;
+            Ok(format!(in alloc; "done {ts} {json};")?)
+        }
+        Reply::Failed(why) => {
+            let why = why.as_str();
+            Ok(format!(in alloc; "failed {ts} {why};")?)
+        }
+    }
 }
 
 // What a step tells, unless it only moved on.
@@ -120,16 +154,7 @@ fn told(alloc: Global, went: &JobWent) -> Result<String, Fail> {
                 c.ts, c.write, c.index, c.range
             )?)
         }
-        JobWent::Done { ts, reply } => match reply {
-            Reply::Value(value) => {
-                let json = to_json(alloc, value)?.to_string(alloc)?;
-                Ok(format!(in alloc; "done {ts} {json};")?)
-            }
-            Reply::Failed(why) => {
-                let why = why.as_str();
-                Ok(format!(in alloc; "failed {ts} {why};")?)
-            }
-        },
+        JobWent::Done { ts, reply } => reply_told(alloc, *ts, reply),
     }
 }
 
@@ -168,10 +193,7 @@ fn by_turns(
     second: &str,
     turns: &str,
 ) -> Result<String, Fail> {
-    let Ok(program) = load(alloc, module.as_bytes()) else {
-        return Err(Fail::from("no program"));
-    };
-    let mut two = Two::new(alloc, program)?;
+    let mut two = open(alloc, module)?;
     for line in before {
         two.play(alloc, call_of(alloc, line)?)?;
     }
@@ -188,11 +210,23 @@ fn by_turns(
     Ok(text)
 }
 
+// What a query answers behind these calls, and what it read and ran for it.
+fn asked(alloc: Global, module: &str, before: &[&str], query: &Query) -> Result<String, Fail> {
+    let mut two = open(alloc, module)?;
+    for line in before {
+        two.play(alloc, call_of(alloc, line)?)?;
+    }
+    let (reply, reads) = two.answer(alloc, query)?;
+    let text = reply_told(alloc, two.store.core().len(), &reply)?;
+    let runs = two.runs.count;
+    Ok(format!(in alloc; "{text} {reads} read, {runs} runs")?)
+}
+
 const SKEW: &str =
     "table t { }\nmutation w:make() { return insert(\"t\", {on: true}); }\nmutation w:off(mine, other) { let d = get(other); if (d.on) { patch(mine, {on: false}); } return d.on; }\n";
 
 const ROWS: &str =
-    "table t { index by_n(n); }\nmutation p:put(n) { return insert(\"t\", {n: n}); }\nmutation p:set(id, n) { patch(id, {n: n}); return n; }\nmutation p:guard(lo, hi) { let r = scan(\"t\", \"by_n\", n >= lo, n < hi); if (len(r) == 0) { insert(\"t\", {n: lo}); } return len(r); }\nmutation p:two() { return len(scan(\"t\", \"by_n\") take (2)); }\n";
+    "table t { index by_n(n); }\nmutation p:put(n) { return insert(\"t\", {n: n}); }\nmutation p:set(id, n) { patch(id, {n: n}); return n; }\nmutation p:guard(lo, hi) { let r = scan(\"t\", \"by_n\", n >= lo, n < hi); if (len(r) == 0) { insert(\"t\", {n: lo}); } return len(r); }\nmutation p:two() { return len(scan(\"t\", \"by_n\") take (2)); }\nquery p:first() { return len(scan(\"t\", \"by_n\") take (2)); }\n";
 
 const THREE: [&str; 3] = [
     "call 00000000-0000-0000-0000-000000000009 1 p:put {\"n\":1}",
@@ -284,5 +318,23 @@ fn jobs_by_turns(rt: HostRuntime) -> Result<(), Fail> {
         )?;
         assert_eq!(rt; text.as_str(), row.text);
     }
+    Ok(())
+}
+
+// A query of three rows in an index, of which it takes two.
+#[test]
+fn a_query_is_answered(rt: HostRuntime) -> Result<(), Fail> {
+    let alloc = rt.alloc();
+    let query = Query {
+        udf: Text::of(alloc, "p:first")?,
+        args: Fields::new(alloc),
+    };
+    let copy = query.copy(alloc)?;
+    assert!(rt; copy == query);
+    let text = asked(alloc, ROWS, &THREE, &copy)?;
+    assert_eq!(rt;
+        text.as_str(),
+        "done 3 {\"$integer\":\"AgAAAAAAAAA=\"}; 1 read, 4 runs"
+    );
     Ok(())
 }

@@ -5,7 +5,7 @@ use Rattle.fn_tree.specs.History.{History}
 use Rattle.cv_stand.specs.EntryLines.{entry_line, entry_lines}
 use Rattle.cv_stand.specs.Texts.{with_feeds}
 use Rattle.cv_stand.proofs.Outcomes.{err_known}
-use Rattle.cv_stand.proofs.Texts.{next_entry, no_gap, entries_split, writing_none, writing_more, writing_part, writing_so_far, writing_all}
+use Rattle.cv_stand.proofs.Texts.{next_entry, entries_split, writing_none, writing_more, writing_part, writing_so_far, writing_all}
 use Rattle.cv_stand.proofs.output.write_entries.Goals as goal
 
 pub loop-i-init : goal.loop-i-init

@@ -1,11 +1,11 @@
-use Rattle.std.proofs.Common.{◌≡◌, ℕ, List, ◌⊎◌, Err, Option, Result, sym, ap, ◌∙◌, subst}
+use Rattle.std.proofs.Common.{◌≡◌, ℕ, ◌⊎◌, Option, Result, sym, ◌∙◌, subst}
 use Rattle.std.specs.Prelude.{IfErr}
 use Rattle.std.specs.Io.KnownBytes.{Appends}
 use Rattle.cv_outside.specs.Causes.{AppendsPart}
 use Rattle.fn_tree.specs.SyntaxTree.{ModuleTree}
 use Rattle.fn_tree.specs.SyntaxViews.{module_view}
-use Rattle.cv_stand.specs.Plays.{Stage, play}
-use Rattle.cv_stand.specs.ScriptViews.{events_view, script_view}
+use Rattle.cv_stand.specs.Plays.{play}
+use Rattle.cv_stand.specs.ScriptViews.{script_view}
 use Rattle.cv_stand.specs.Texts.{with_feeds}
 use Rattle.cv_stand.specs.declared.output.PlayFault.{PlayFault}
 use Rattle.cv_stand.specs.declared.output.PlayFault.TheVariants.{Write, Memory}

@@ -1,6 +1,6 @@
 use Rattle.std.proofs.Common.{◌≡◌, ◌-◌, ℕ, List, true, is_some, length, length-drop, take, drop, sym, ◌∙◌, arith}
 use Rattle.std.proofs.lemmas.List.{take_all}
-use Rattle.cv_stand.specs.Events.{number_of}
+use Rattle.cv_stand.specs.ScriptLine.{number_of}
 use Rattle.cv_stand.proofs.ScriptWords.{IsNumber, number_is, below_zero_parsed, zero_parsed, too_low_parsed}
 use Rattle.cv_stand.proofs.script_reader.read_below_zero.Goals as goal
 
