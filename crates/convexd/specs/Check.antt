@@ -4,7 +4,7 @@ use Rattle.std.specs.Io.KnownBytes.{Appends}
 use Rattle.cv_outside.specs.Causes.{AppendsPart}
 use Rattle.cv_outside.specs.declared.whole.TheConstants.{INPUT_LIMIT}
 use Rattle.fn_check.specs.Functions.{first_fault}
-use Rattle.fn_check.specs.declared.fault.CheckFault.{CheckFault}
+use Rattle.fn_load.specs.Loading.{IsUnmet}
 use Rattle.fn_tree.specs.Canonical.{canonical_text}
 use Rattle.fn_tree.specs.ModuleTexts.{IsModuleText, IsFaultOf}
 use Rattle.fn_tree.specs.SyntaxTree.{ModuleTree}
@@ -23,12 +23,6 @@ pub record IsCanonical (input text : List ℕ) : Type 0 where
   pub reads : IsModuleText input tree
   pub meets : first_fault tree ≡ None
   pub same : text ≡ canonical_text tree
-
--- the input is the text of a module whose first fault is this one
-pub record IsUnmet (input : List ℕ) (fault : CheckFault) : Type 0 where
-  pub tree : ModuleTree
-  pub reads : IsModuleText input tree
-  pub first : first_fault tree ≡ Some fault
 
 -- why no module is accepted
 abbrev pub IsRefused : List ℕ → ModuleFault → Type 0

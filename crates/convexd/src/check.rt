@@ -19,7 +19,8 @@ fn is_check(word: &String) -> bool
     word.as_str() == "check"
 }
 
-fn says_check(words: &[String]) -> bool
+/// Whether the words ask for a check.
+pub fn says_check(words: &[String]) -> bool
     ensures { IsTrue result ↔ (map string_bytes words.now ≡ check_words) }
 {
     match words {

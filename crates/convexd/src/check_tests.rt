@@ -176,6 +176,119 @@ fn each_check_refuses(rt: HostRuntime) -> Result<(), Fail> {
     Ok(())
 }
 
+// Checks in the inner parts of forms, the numbers of arguments, and two faults at one token.
+#[test]
+fn checks_reach_every_part(rt: HostRuntime) -> Result<(), Fail> {
+    let rows = [
+        (
+            "helper h() { return now(); } query q:a() { return h(); }",
+            50,
+            CheckKind::NowInQuery,
+        ),
+        (
+            "table t { } query q:a(x) { if (x) { } else { insert(\"t\", {}); } }",
+            45,
+            CheckKind::WriteInQuery,
+        ),
+        (
+            "table t { } query q:a() { return scan(\"t\", \"by_id\") take (insert(\"t\", {})); }",
+            58,
+            CheckKind::WriteInQuery,
+        ),
+        (
+            "table t { } query q:a() { return scan(\"t\", \"by_id\", _id == insert(\"t\", {})); }",
+            59,
+            CheckKind::WriteInQuery,
+        ),
+        (
+            "table t { } query q:a() { for (i in insert(\"t\", {})) { } }",
+            36,
+            CheckKind::WriteInQuery,
+        ),
+        (
+            "table t { index i(a); } query q:a() { return scan(\"t\", \"i\", a > 1, a >= 2); }",
+            67,
+            CheckKind::BadBound,
+        ),
+        (
+            "table t { index i(a, b); } query q:a() { return scan(\"t\", \"i\", a > 1, b == 2); }",
+            70,
+            CheckKind::BadBound,
+        ),
+        ("table t { index i(\"$a\"); }", 18, CheckKind::BadName),
+        (
+            "mutation q:a() { } query q:a() { }",
+            25,
+            CheckKind::DuplicateFunction,
+        ),
+        (
+            "query q:a(x) { if (x) { let y = 1; } return y; }",
+            44,
+            CheckKind::UnknownName,
+        ),
+        (
+            "table t { } helper w(x) { insert(\"t\", {}); } query q:a() { return w(); }",
+            66,
+            CheckKind::WrongArity,
+        ),
+        (
+            "query q:a(x) { return set(x, \"k\"); }",
+            22,
+            CheckKind::WrongArity,
+        ),
+        (
+            "query q:a(x) { return slice(x, 0); }",
+            22,
+            CheckKind::WrongArity,
+        ),
+        (
+            "query q:a(x) { return range(1); }",
+            22,
+            CheckKind::WrongArity,
+        ),
+        (
+            "query q:a(x) { return without(x); }",
+            22,
+            CheckKind::WrongArity,
+        ),
+        (
+            "query q:a(x) { return show(x, x); }",
+            22,
+            CheckKind::WrongArity,
+        ),
+        (
+            "query q:a(x) { return keys(x, x); }",
+            22,
+            CheckKind::WrongArity,
+        ),
+        ("query q:a(x) { return has(x); }", 22, CheckKind::WrongArity),
+        (
+            "query q:a(x) { return push(x); }",
+            22,
+            CheckKind::WrongArity,
+        ),
+    ];
+    for (text, at, kind) in rows {
+        let fault = CheckFault { at, kind };
+        assert_eq!(rt; refused(rt.alloc(), text)?, Some(fault), "{text}");
+    }
+    Ok(())
+}
+
+#[test]
+fn good_modules_meet_the_checks(rt: HostRuntime) -> Result<(), Fail> {
+    let texts = [
+        "table t { index i(a, b); } query q:a() { return scan(\"t\", \"i\", a == 1, b < 3, b >= 2); }",
+        "table t { index i(a); } query q:a() { return scan(\"t\", \"i\", a == 1, _creationTime == 2, _id > \"x\"); }",
+        "query q:a(x) { if (x) { let y = 1; } else { let y = 2; } for (y in x) { } }",
+        "helper h() { return now(); } mutation q:a() { return h(); }",
+    ];
+    for text in texts {
+        assert_eq!(rt; refused(rt.alloc(), text)?, None, "{text}");
+    }
+    Ok(())
+}
+
 // A text that fits, and the same with one part more, which is refused at its name.
 fn one_more_is_refused(
     alloc: Global,

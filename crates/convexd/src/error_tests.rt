@@ -88,7 +88,7 @@ fn each_error_is_a_reply(rt: HostRuntime) -> Result<(), Fail> {
 
 // The third call costs 100,000 units, the fourth one unit more.
 #[test]
-fn row_10_function_errors(rt: HostRuntime) -> Result<(), Fail> {
+fn function_errors_are_replies(rt: HostRuntime) -> Result<(), Fail> {
     let input =
         "mutation e:sum(a, b) { return a + b; }\nmutation e:no() { throw \"no\"; }\nmutation e:spin(a, b, c) { for (i in range(0, a)) { for (j in range(0, b)) { } } for (k in range(0, c)) { } return 1; }\n%%\ncall 00000000-0000-0000-0000-000000000001 1 e:sum {\"a\":{\"$integer\":\"/////////38=\"},\"b\":1}\ncall 00000000-0000-0000-0000-000000000001 2 e:no {}\ncall 00000000-0000-0000-0000-000000000001 3 e:spin {\"a\":12,\"b\":8190,\"c\":1693}\ncall 00000000-0000-0000-0000-000000000001 4 e:spin {\"a\":12,\"b\":8190,\"c\":1694}\n";
     let replies =

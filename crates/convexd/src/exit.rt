@@ -10,7 +10,7 @@ pub enum ModuleFault {
     Check(CheckFault),
 }
 
-/// How a command ended. `main` gives each its status, from 0 in this order.
+/// How a command ended. `report` gives each its status, from 0 in this order.
 #[derive(Clone, Copy, Debug, PartialEq, Eq)]
 pub enum Exit {
     /// The input was read to its end, and all was written.

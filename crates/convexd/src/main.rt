@@ -8,6 +8,7 @@ ghost use Rattle.convexd.specs.Exits.{status_of};
 mod check;
 #[cfg(test)]
 mod check_tests;
+mod command;
 #[cfg(test)]
 mod error_tests;
 mod exit;
@@ -21,6 +22,7 @@ mod replay;
 mod tests;
 
 pub use check::check_main;
+pub use command::command;
 use cv_outside::{StdSink, StdSource};
 pub use exit::{Exit, ModuleFault};
 pub use laws::{
@@ -72,11 +74,6 @@ fn main(rt: HostRuntime) -> ExitCode {
     }
     let mut input = StdSource::new(rt.reader());
     let mut out = StdSink::new(io::writer(&rt));
-    let exit = match words.first() {
-        Some(word) if word.as_str() == "check" => {
-            check_main(alloc, &words, &mut input, &mut out)
-        }
-        _ => replay_main(alloc, &words, &mut input, &mut out),
-    };
+    let exit = command(alloc, &words, &mut input, &mut out);
     report(&rt, exit)
 }

@@ -66,7 +66,9 @@ fn replay_input<O: Sink>(alloc: Global, input: &[u8], out: &mut O) -> Exit
         Ok(None) => Exit::Done,
         Ok(Some(line)) => Exit::Script { line },
         Err(PlayFault::Write) => Exit::Write,
-        Err(PlayFault::Script | PlayFault::Memory) => Exit::Memory,
+        Err(PlayFault::Memory) => Exit::Memory,
+        // A script's calls are never out of turn: no connection can be missing.
+        Err(PlayFault::Script) => unreachable!(),
     }
 }
 

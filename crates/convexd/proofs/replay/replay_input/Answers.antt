@@ -41,11 +41,11 @@ returns-in-Err-Write-clause-answer g c =
     let play : IsPlay c.args.input.now script.bad text = is_play c.args.input.now c.in-Ok.parts.module.now f.0 (lines_of c.in-Ok.parts.script.now) f.1 f.2 c.scripts_make_one_log.ensures c.in-Ok.parts.line tree script f.3 c.in-Ok-load.ensures.good c.in-Ok-read_script.ensures c.requires in
     (script.bad, text, play, c.in-Err-Write.ensures.part)
 
-pub returns-clause-answer : goal.returns-clause-answer
-returns-clause-answer g c =
+pub returns-in-Err-Memory-clause-answer : goal.returns-in-Err-Memory-clause-answer
+returns-in-Err-Memory-clause-answer g c =
     let f = c.in-Ok.ensures.found in
     let tree = module_view c.in-Ok-load.program.checked.tree in
     let script = script_view c.in-Ok-read_script.script in
     let text = script_text tree script in
     let play : IsPlay c.args.input.now script.bad text = is_play c.args.input.now c.in-Ok.parts.module.now f.0 (lines_of c.in-Ok.parts.script.now) f.1 f.2 c.scripts_make_one_log.ensures c.in-Ok.parts.line tree script f.3 c.in-Ok-load.ensures.good c.in-Ok-read_script.ensures c.requires in
-    inr (script.bad, text, play, c.in-Err-Script.ensures.part)
+    inr (script.bad, text, play, c.in-Err-Memory.ensures.part)
