@@ -42,6 +42,7 @@ fn put_prefix(out: &mut Vec<u8>, values: &[Val], bound: Option<&Val>) -> Result<
     ensures in_range { OnOk result (PlaceInRange (given values.now bound.entry)) }
 {
     put_each(out, values)?;
+    // Two returns, since what holds of each branch is lost where they join.
     if let Some(v) = bound {
         put_key(out, v)?;
         return Ok(());
@@ -66,6 +67,7 @@ fn end_of(alloc: Global, values: &[Val], bound: Option<&Val>, behind: bool) -> R
     let room = prefix_len(values, bound).saturating_add(usize::from(behind));
     let mut out = Vec::with_capacity(alloc, room)?;
     put_prefix(&mut out, values, bound)?;
+    // Two returns again.
     if behind {
         put(&mut out, &[LAST])?;
         return Ok(Key::from_vec(out));

@@ -25,7 +25,8 @@ pub fn balance(node: Box<Node>, l: Subtree, r: Subtree) -> Subtree
     }
 }
 
-// The left tree is higher by two, so its topmost node comes up, or else the one right below it.
+// The left tree is higher by two, so its topmost node comes up, or else the one right below it. Both trees
+// that are split are high enough to have a node.
 fn rotate_right(node: Box<Node>, l: Subtree, r: Subtree) -> Subtree
     requires balanced { IsBalanced l × IsBalanced r }
     requires two_higher { height l ≡ height r + 2 }
