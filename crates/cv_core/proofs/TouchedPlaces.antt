@@ -18,9 +18,9 @@ use Rattle.cv_keys.proofs.ItemCmp.{intervals_hold_by_keys}
 use Rattle.fn_tree.specs.CommitLaws.{TouchesNone}
 use Rattle.fn_tree.specs.History.{Entry, History}
 use Rattle.cv_store.specs.FirstTouch.{by_key, by_place, indexes_in, indexes_of, index_touch, doc_touch, write_touch, writes_touch, entries_touch}
+use Rattle.cv_store.specs.Reads.{EndsInRange}
 use Rattle.cv_store.specs.declared.conflict.Conflict.{Conflict}
 use Rattle.cv_core.specs.Changes.{DocsInRange}
-use Rattle.cv_core.specs.Ranges.{EndsInRange}
 use Rattle.cv_core.specs.TouchByPlaces.{AreInRange, TouchesGoByPlaces, NoneIsUntouched}
 
 -- ---- by key bytes and by places

@@ -2,7 +2,6 @@ pub mod Changes
 pub mod Cores
 pub mod Ends
 pub mod Kept
-pub mod Ranges
 pub mod Solos
 pub mod Tailing
 pub mod TouchByPlaces

@@ -7,8 +7,8 @@ use Rattle.cv_keys.specs.declared.schema.Schema.{Schema}
 use Rattle.fn_tree.specs.CommitLaws.{IsUntouched}
 use Rattle.fn_tree.specs.History.{History}
 use Rattle.cv_store.specs.FirstTouch.{indexes_of, first_touch, first_touch_places}
+use Rattle.cv_store.specs.Reads.{EndsInRange}
 use Rattle.cv_core.specs.Changes.{DocsInRange}
-use Rattle.cv_core.specs.Ranges.{EndsInRange}
 
 -- the places of the documents that entries write are in range
 abbrev pub AreInRange : Schema → History → Type 0

@@ -7,7 +7,7 @@ use mir.ValLaws.{SFits-prop}
 use Rattle.cv_values.specs.Value.{Value, null, int, boolean, string, bytes, array, object, Values, no_values, value, Members, no_members, member}
 use Rattle.cv_keys.specs.KeyOrder.{IsInRange, AreInRange, MembersInRange, ItemInRange, PlaceInRange, EndInRange}
 use Rattle.cv_keys.specs.Places.{Item, Place, End, below, above, PlaceInterval}
-use Rattle.cv_run.specs.Rest.{EndsInRange}
+use Rattle.cv_store.specs.Reads.{EndsInRange}
 
 mutual
   in_range_prop : (v : Value) → IsProp (IsInRange v)

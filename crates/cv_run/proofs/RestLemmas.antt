@@ -10,7 +10,8 @@ use Rattle.cv_keys.specs.declared.interval.Interval.{Interval}
 use Rattle.cv_keys.specs.declared.write.Write.{Write}
 use Rattle.fn_tree.proofs.RunsAsk.{runs_ask_there}
 use Rattle.fn_tree.specs.AsksThere.{IsThere}
-use Rattle.cv_run.specs.Rest.{EndsInRange, IsRest}
+use Rattle.cv_run.specs.Rest.{IsRest}
+use Rattle.cv_store.specs.Reads.{EndsInRange}
 use Rattle.cv_tx.proofs.PendingLaws.{pending_is_true, pending_is_seen, pending_is_written}
 use Rattle.cv_tx.specs.Pending.{placed, pending_after, AreTrue, written}
 use Rattle.cv_tx.specs.PutsLaid.{IsTold, AreTold}

@@ -15,10 +15,9 @@ use Rattle.cv_run.proofs.StoreLemmas.{longer, docs_stay}
 use Rattle.cv_run.specs.Codes.{reply_code}
 use Rattle.cv_run.specs.Paused.{IsPaused}
 use Rattle.cv_run.specs.Pauses.{AtRead, Pauses}
-use Rattle.cv_run.specs.Rest.{EndsInRange}
 use Rattle.cv_run.specs.declared.pause.Pause.{Pause}
 use Rattle.cv_run.specs.declared.pause.Pause.TheVariants.{Read, End}
-use Rattle.cv_store.specs.Reads.{StandsFor, IsReadable}
+use Rattle.cv_store.specs.Reads.{EndsInRange, StandsFor, IsReadable}
 use Rattle.cv_store.specs.Jobs as jobs
 use Rattle.cv_store.specs.Jobs.{one_more, reads_of, ended_as, StepsBegin, StepsRead, StepsCommit, Steps}
 use Rattle.cv_store.specs.Stores.{Standing, GoesOn, Reads, IsRunOf, Commits}

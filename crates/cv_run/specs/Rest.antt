@@ -1,12 +1,11 @@
 -- What is left of a run.
 use Rattle.std.specs.Prelude.{◌≡◌, List, [], ◌++◌, map}
-use Rattle.std.specs.List.{AllByRecursion}
 use Rattle.cv_keys.specs.Intervals.{in_bytes}
-use Rattle.cv_keys.specs.KeyOrder.{EndInRange}
 use Rattle.cv_keys.specs.Places.{PlaceInterval}
 use Rattle.cv_keys.specs.declared.interval.Interval.{Interval}
 use Rattle.cv_keys.specs.declared.write.Write.{Write}
 use Rattle.fn_tree.specs.AsksThere.{AsksThere}
+use Rattle.cv_store.specs.Reads.{EndsInRange}
 use Rattle.cv_tx.specs.Pending.{pending_after}
 use Rattle.cv_tx.specs.PutsLaid.{AreTold}
 use Rattle.fn_tree.specs.Course.{Course}
@@ -21,10 +20,6 @@ use Rattle.fn_tree.specs.declared.stop.Put.{Put}
 -- what came of a course that went on after these reads
 abbrev pub after_reads : List PlaceInterval → Played → Played
 after_reads reads p = record p { reads = reads ++ p.reads }
-
--- both ends of each interval are some that the key order law speaks of
-abbrev pub EndsInRange : List PlaceInterval → Type 0
-EndsInRange is = AllByRecursion (λ i. EndInRange i.lo × EndInRange i.hi) is
 
 -- of the run of a call on these documents, where it has these pending writes and has read these intervals, this course is left
 pub record IsRest (m : ModuleTree) (s : Start) (ds : Docs) (pending : List Write) (reads : List Interval) (k : Course) : Type 0 where

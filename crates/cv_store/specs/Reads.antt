@@ -1,5 +1,6 @@
 -- What a store reads from documents.
 use Rattle.std.specs.Prelude.{◌≡◌, ℕ, zero, suc, ◌-◌, Bool, nat_lt, cond, List, [], ◌∷◌, IsSome}
+use Rattle.std.specs.List.{AllByRecursion}
 use Rattle.cv_values.specs.declared.doc.Doc.{Doc}
 use Rattle.cv_values.specs.declared.ids.DocId.{DocId}
 use Rattle.cv_keys.specs.Documents.{index_at}
@@ -23,6 +24,10 @@ abbrev pub StandsFor : ReadReq → StoreRead → Type 0
 StandsFor (Get id) q = q ≡ one_doc id
 StandsFor (Scan interval desc rows size) q =
     (i : PlaceInterval) × (q ≡ first_rows i desc rows size) × (interval ≡ in_bytes i) × EndInRange i.lo × EndInRange i.hi
+
+-- both ends of each interval are some that the key order law speaks of
+abbrev pub EndsInRange : List PlaceInterval → Type 0
+EndsInRange reads = AllByRecursion (λ i. EndInRange i.lo × EndInRange i.hi) reads
 
 -- the index of a scan is there
 abbrev pub IsReadable : Schema → ReadReq → Type 0

@@ -1,8 +1,6 @@
 -- What a store means, and what one call may do to it.
 use Rattle.std.specs.Prelude.{◌≡◌, ◌⊎◌, ℕ, ◌≤◌, List, [], ◌∷◌, ◌++◌, length, map, Option, Some, None, option_map}
-use Rattle.std.specs.List.{AllByRecursion}
 use Rattle.cv_keys.specs.Intervals.{in_bytes}
-use Rattle.cv_keys.specs.KeyOrder.{EndInRange}
 use Rattle.cv_keys.specs.declared.interval.Interval.{Interval}
 use Rattle.cv_keys.specs.declared.schema.Schema.{Schema}
 use Rattle.fn_tree.specs.EntryViews.{reply_view}
@@ -16,6 +14,7 @@ use Rattle.cv_store.specs.Cache.{Cached, Cache, cached_at, after_look, Shows, af
 use Rattle.cv_store.specs.FirstTouch.{first_touch}
 use Rattle.cv_store.specs.Kept.{kept}
 use Rattle.cv_store.specs.Marks.{entry_marks}
+use Rattle.cv_store.specs.Reads.{EndsInRange}
 use Rattle.cv_store.specs.declared.look.Look.{Look}
 use Rattle.cv_store.specs.declared.look.Look.TheVariants.{Hit, Miss}
 use Rattle.cv_store.specs.declared.proposal.Begun.{Begun}
@@ -69,7 +68,7 @@ pub record Reads (s t : Standing) : Type 0 where
 pub record IsAnswer (r : Run) (reply : Reply) (reads : List Interval) : Type 0 where
   pub same_reply : reply_view reply ≡ r.reply
   pub same_reads : reads ≡ map in_bytes r.reads
-  pub ends : AllByRecursion (λ i. EndInRange i.lo × EndInRange i.hi) r.reads
+  pub ends : EndsInRange r.reads
 
 -- the run of a query at a timestamp
 abbrev pub query_run : Standing → Query → (ts : ℕ) → Run
