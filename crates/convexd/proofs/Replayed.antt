@@ -1,5 +1,5 @@
 -- How an input is replayed.
-use Rattle.std.proofs.Common.{◌≡◌, ◌≤◌, ℕ, ◌+◌, List, length, Option, Some, ap, inl}
+use Rattle.std.proofs.Common.{◌≡◌, ◌≤◌, ℕ, ◌+◌, List, length, Option, Some, ap, inl, subst}
 use Rattle.cv_outside.specs.declared.whole.TheConstants.{INPUT_LIMIT}
 use Rattle.fn_load.specs.Loading.{IsAccepted, IsCauseOf}
 use Rattle.fn_load.specs.declared.fault.LoadFault.{LoadFault}
@@ -7,7 +7,7 @@ use Rattle.fn_load.specs.declared.fault.LoadFault.TheVariants as load
 use Rattle.fn_tree.specs.ModuleTexts.{IsModuleText}
 use Rattle.fn_tree.specs.SyntaxTree.{ModuleTree}
 use Rattle.convexd.specs.Answering.{Answers, IsPlay, refusal_of}
-use Rattle.cv_stand.specs.Events.{Event, Script, script_of}
+use Rattle.cv_stand.specs.Events.{Script, script_of}
 use Rattle.cv_stand.specs.Lines.{lines_of}
 use Rattle.convexd.specs.Lines.{halves, concat}
 use Rattle.cv_stand.specs.Texts.{script_text}
@@ -17,8 +17,8 @@ use Rattle.convexd.proofs.Writes.{Appends-none}
 -- an input with the line `%%`
 module _ (input text : List ℕ) (front lines : List (List ℕ)) (parts : halves (lines_of input) ≡ Some (front, lines)) (whole : text ≡ concat front) where
   -- its module is accepted
-  pub is_play : ((m : ModuleTree) (events : List (ℕ × Event)) → IsOneLog m events) → (line : ℕ) (tree : ModuleTree) (script : Script) → line ≡ length front + 2 → IsAccepted text tree → script ≡ script_of line lines → length input ≤ INPUT_LIMIT → IsPlay input script.bad (script_text tree script)
-  is_play one_log line tree script at accepted reads limit =
+  pub is_play : (line : ℕ) (tree : ModuleTree) (script : Script) → IsOneLog tree script.events → line ≡ length front + 2 → IsAccepted text tree → script ≡ script_of line lines → length input ≤ INPUT_LIMIT → IsPlay input script.bad (script_text tree script)
+  is_play line tree script one_log at accepted reads limit =
       let from_front : script ≡ script_of (length front + 2) lines = rw at at reads in
       let a : IsAccepted (concat front) tree = rw whole at accepted in
       record {
@@ -30,7 +30,7 @@ module _ (input text : List ℕ) (front lines : List (List ℕ)) (parts : halves
         meets = a.meets;
         stops = ap (λ (s : Script). s.bad) from_front;
         writes = ap (λ (s : Script). script_text tree s) from_front;
-        log = one_log tree (script_of (length front + 2) lines).events;
+        log = subst (λ (s : Script). IsOneLog tree s.events) from_front one_log;
         limit = limit;
       }
 

@@ -8,7 +8,7 @@ ghost use Rattle.convexd.specs.Answering.{replay_words, refusal_of, Answers};
 use crate::exit::{Exit, ModuleFault};
 use crate::lines::cut;
 use cv_outside::{ReadFault, Sink, Source, read_whole};
-use cv_stand::{PlayFault, play_script, read_script, scripts_make_one_log};
+use cv_stand::{PlayFault, play_script, read_script};
 use fn_load::{LoadFault, load};
 use std::alloc::Global;
 
@@ -61,7 +61,6 @@ fn replay_input<O: Sink>(alloc: Global, input: &[u8], out: &mut O) -> Exit
     let Ok(script) = read_script(alloc, parts.script, parts.line) else {
         return Exit::Memory;
     };
-    scripts_make_one_log();
     match play_script(alloc, &program, &script, out) {
         Ok(None) => Exit::Done,
         Ok(Some(line)) => Exit::Script { line },

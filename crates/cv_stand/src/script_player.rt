@@ -4,11 +4,12 @@ ghost use Rattle.std.specs.Io.KnownBytes.{Appends};
 ghost use Rattle.cv_outside.specs.Causes.{AppendsPart, Rose};
 ghost use Rattle.fn_tree.specs.SyntaxViews.{module_view};
 ghost use Rattle.cv_stand.specs.EntryLines.{length_line};
-ghost use Rattle.cv_stand.specs.Plays.{play};
+ghost use Rattle.cv_stand.specs.Plays.{IsOneLog, play};
 ghost use Rattle.cv_stand.specs.ScriptViews.{events_view, script_view};
 ghost use Rattle.cv_stand.specs.Stands.{module_of};
 ghost use Rattle.cv_stand.specs.Texts.{last_lines, script_text, with_feeds};
 
+use crate::laws::scripts_make_one_log;
 use crate::output::{PlayFault, write_line};
 use crate::script::{Event, Script};
 use crate::stand::Stand;
@@ -73,13 +74,15 @@ fn write_end<K: Sink>(
 
 /// Plays the events of a script from an empty log, when the clock reads 0: each call adds its entry,
 /// unless the log has one of its request, and tells the reply of that entry. Behind the last event the
-/// length of the log is told, unless the script has a bad line, whose number is given back.
+/// length of the log is told, unless the script has a bad line, whose number is given back. What the
+/// events make is one log, whatever the answer.
 pub fn play_script<K: Sink>(
     alloc: Global,
     program: &Program,
     script: &Script,
     out: &mut K,
 ) -> Result<Option<u64>, PlayFault>
+    ensures log { IsOneLog (module_view program.now.checked.tree) (script_view script.now).events }
     ensures bad { IfOk result (λ bad. bad ≡ (script_view script.now).bad) }
     ensures done { OnOk result (Appends (K.held out.old) (K.held out.new) (script_text (module_view program.now.checked.tree) (script_view script.now))) }
     ensures part { OnErr result (AppendsPart (K.held out.old) (K.held out.new) (script_text (module_view program.now.checked.tree) (script_view script.now))) }
@@ -88,6 +91,7 @@ pub fn play_script<K: Sink>(
     ensures kept { result ≢ Err PlayFault.Write → K.faults out.new ≡ K.faults out.old }
     ensures later { K.faults out.old ≤ K.faults out.new }
 {
+    scripts_make_one_log();
     let mut stand = Stand::new(alloc, program)?;
     let mut runs = Runs { count: 0 };
     play_all(

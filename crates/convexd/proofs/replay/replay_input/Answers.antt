@@ -20,7 +20,7 @@ returns-in-Ok-None-clause-answer g c =
     let tree = module_view c.in-Ok-load.program.checked.tree in
     let script = script_view c.in-Ok-read_script.script in
     let text = script_text tree script in
-    let play : IsPlay c.args.input.now script.bad text = is_play c.args.input.now c.in-Ok.parts.module.now f.0 (lines_of c.in-Ok.parts.script.now) f.1 f.2 c.scripts_make_one_log.ensures c.in-Ok.parts.line tree script f.3 c.in-Ok-load.ensures.good c.in-Ok-read_script.ensures c.requires in
+    let play : IsPlay c.args.input.now script.bad text = is_play c.args.input.now c.in-Ok.parts.module.now f.0 (lines_of c.in-Ok.parts.script.now) f.1 f.2 c.in-Ok.parts.line tree script c.play_script.ensures.log f.3 c.in-Ok-load.ensures.good c.in-Ok-read_script.ensures c.requires in
     (text, subst (λ (b : Option ℕ). IsPlay c.args.input.now b text) (sym c.in-Ok-None.ensures.bad ∙ c.in-Ok-None.field-0-is) play, c.in-Ok-None.ensures.done)
 
 pub returns-in-Ok-Some-clause-answer : goal.returns-in-Ok-Some-clause-answer
@@ -29,7 +29,7 @@ returns-in-Ok-Some-clause-answer g c =
     let tree = module_view c.in-Ok-load.program.checked.tree in
     let script = script_view c.in-Ok-read_script.script in
     let text = script_text tree script in
-    let play : IsPlay c.args.input.now script.bad text = is_play c.args.input.now c.in-Ok.parts.module.now f.0 (lines_of c.in-Ok.parts.script.now) f.1 f.2 c.scripts_make_one_log.ensures c.in-Ok.parts.line tree script f.3 c.in-Ok-load.ensures.good c.in-Ok-read_script.ensures c.requires in
+    let play : IsPlay c.args.input.now script.bad text = is_play c.args.input.now c.in-Ok.parts.module.now f.0 (lines_of c.in-Ok.parts.script.now) f.1 f.2 c.in-Ok.parts.line tree script c.play_script.ensures.log f.3 c.in-Ok-load.ensures.good c.in-Ok-read_script.ensures c.requires in
     inr (text, subst (λ (b : Option ℕ). IsPlay c.args.input.now b text) (sym c.in-Ok-Some.ensures.bad ∙ c.in-Ok-Some.field-0-is) play, c.in-Ok-Some.ensures.done)
 
 pub returns-in-Err-Write-clause-answer : goal.returns-in-Err-Write-clause-answer
@@ -38,7 +38,7 @@ returns-in-Err-Write-clause-answer g c =
     let tree = module_view c.in-Ok-load.program.checked.tree in
     let script = script_view c.in-Ok-read_script.script in
     let text = script_text tree script in
-    let play : IsPlay c.args.input.now script.bad text = is_play c.args.input.now c.in-Ok.parts.module.now f.0 (lines_of c.in-Ok.parts.script.now) f.1 f.2 c.scripts_make_one_log.ensures c.in-Ok.parts.line tree script f.3 c.in-Ok-load.ensures.good c.in-Ok-read_script.ensures c.requires in
+    let play : IsPlay c.args.input.now script.bad text = is_play c.args.input.now c.in-Ok.parts.module.now f.0 (lines_of c.in-Ok.parts.script.now) f.1 f.2 c.in-Ok.parts.line tree script c.play_script.ensures.log f.3 c.in-Ok-load.ensures.good c.in-Ok-read_script.ensures c.requires in
     (script.bad, text, play, c.in-Err-Write.ensures.part)
 
 pub returns-in-Err-Memory-clause-answer : goal.returns-in-Err-Memory-clause-answer
@@ -47,5 +47,5 @@ returns-in-Err-Memory-clause-answer g c =
     let tree = module_view c.in-Ok-load.program.checked.tree in
     let script = script_view c.in-Ok-read_script.script in
     let text = script_text tree script in
-    let play : IsPlay c.args.input.now script.bad text = is_play c.args.input.now c.in-Ok.parts.module.now f.0 (lines_of c.in-Ok.parts.script.now) f.1 f.2 c.scripts_make_one_log.ensures c.in-Ok.parts.line tree script f.3 c.in-Ok-load.ensures.good c.in-Ok-read_script.ensures c.requires in
+    let play : IsPlay c.args.input.now script.bad text = is_play c.args.input.now c.in-Ok.parts.module.now f.0 (lines_of c.in-Ok.parts.script.now) f.1 f.2 c.in-Ok.parts.line tree script c.play_script.ensures.log f.3 c.in-Ok-load.ensures.good c.in-Ok-read_script.ensures c.requires in
     inr (script.bad, text, play, c.in-Err-Memory.ensures.part)
