@@ -17,8 +17,6 @@ mod schema;
 mod scope;
 mod statement;
 mod table;
-#[cfg(test)]
-mod tests;
 
 pub use checked::Checked;
 pub use checks::check;

@@ -16,8 +16,6 @@ mod read;
 mod runs;
 mod scan;
 mod scope;
-#[cfg(test)]
-mod tests;
 
 pub use answer::answer_of;
 pub use context::Limits;

@@ -2,18 +2,12 @@
 //! first fault of bytes that are no such text.
 #![tactic(auto)]
 
-#[cfg(test)]
-mod grammar_tests;
 mod laws;
 mod lexer;
 mod module_text;
 mod nesting;
 mod number;
-#[cfg(test)]
-mod parse_tests;
 mod parser;
-#[cfg(test)]
-mod tests;
 mod token;
 mod utf8;
 mod value;
