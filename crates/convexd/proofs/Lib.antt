@@ -1,5 +1,4 @@
 pub mod Checking
-pub mod Driving
 pub mod Replayed
 pub mod Replaying
 pub mod Walked

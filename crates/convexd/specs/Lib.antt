@@ -1,5 +1,4 @@
 pub mod Answering
 pub mod Check
-pub mod Driven
 pub mod Exits
 pub mod Lines

@@ -14,9 +14,6 @@ mod error_tests;
 mod exit;
 mod laws;
 mod lines;
-mod machine_run;
-#[cfg(test)]
-mod machine_tests;
 mod replay;
 #[cfg(test)]
 mod tests;
@@ -29,7 +26,6 @@ pub use laws::{
     accepted_modules_end, answers_exclude_each_other, checks_exclude_each_other, good_inputs_end,
 };
 pub use lines::{Parts, cut};
-pub use machine_run::run_call;
 pub use replay::replay_main;
 use std::process::ExitCode;
 use std::{env, io};

@@ -12,7 +12,7 @@ use Rattle.fn_tree.specs.declared.stop.Outcome.{Outcome}
 use Rattle.fn_tree.specs.declared.stop.Put.{Put}
 use Rattle.fn_vm.specs.Machines.{Goes}
 use Rattle.fn_vm.specs.Views.{outcome_view}
-use Rattle.convexd.specs.declared.machine_run.Drive.{Drive}
+use Rattle.fn_trial.specs.declared.machine_run.Drive.{Drive}
 
 -- how many reads and writes a course still makes on these documents, after these puts
 abbrev pub stops : Schema → Docs → List Put → Course → ℕ

@@ -2,8 +2,8 @@ use Rattle.std.proofs.Common.{◌-◌, []}
 use Rattle.fn_tree.specs.Functions.{course_of}
 use Rattle.fn_tree.specs.SyntaxViews.{module_view}
 use Rattle.fn_vm.specs.Machines.{start_view}
-use Rattle.convexd.specs.Driven.{Drives, behind, stops}
-use Rattle.convexd.proofs.machine_run.run_call.Given as goal
+use Rattle.fn_trial.specs.Driven.{Drives, behind, stops}
+use Rattle.fn_trial.proofs.machine_run.run_call.Given as goal
 
 -- the machine goes by the rest of the call's course
 abbrev pub invariant-loop-drive : goal.invariant-loop-drive

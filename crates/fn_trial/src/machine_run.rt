@@ -14,7 +14,7 @@ ghost use Rattle.fn_tree.specs.Schemas.{schema_of};
 ghost use Rattle.fn_tree.specs.SyntaxTree.{ModuleTree};
 ghost use Rattle.fn_tree.specs.SyntaxViews.{module_view};
 ghost use Rattle.fn_vm.specs.Machines.{start_view, WaitsForRows, WaitsForPut};
-ghost use Rattle.convexd.specs.Driven.{CanGoOn, Drives, Ends, IsRest, OneMore, Steps};
+ghost use Rattle.fn_trial.specs.Driven.{CanGoOn, Drives, Ends, IsRest, OneMore, Steps};
 
 use cv_keys::{Interval, Schema, Write};
 use cv_values::{Copied, Doc, Memory, Seq};

@@ -25,8 +25,8 @@ use Rattle.fn_tree.specs.declared.stop.Ask.TheVariants.{Get, Scan}
 use Rattle.fn_tree.specs.declared.stop.Put.{Put}
 use Rattle.fn_vm.specs.Machines.{Goes}
 use Rattle.fn_vm.specs.Moves.{Stands}
-use Rattle.convexd.specs.Driven.{IsRest, OneMore}
-use Rattle.convexd.specs.declared.machine_run.Drive.{Drive}
+use Rattle.fn_trial.specs.Driven.{IsRest, OneMore}
+use Rattle.fn_trial.specs.declared.machine_run.Drive.{Drive}
 
 -- the machine's reads are some that the plain program answers
 pub asks_same : (a : Ask) (q : course.Ask) → Stands a q → Asks a q

@@ -2,9 +2,9 @@ use Rattle.std.proofs.Common.{subst}
 use Rattle.fn_tree.specs.Course.{Course}
 use Rattle.fn_vm.specs.Machines.{Stops}
 use Rattle.fn_vm.specs.declared.stop.Stop.{Stop}
-use Rattle.convexd.specs.Driven.{IsRest}
-use Rattle.convexd.proofs.Driving.{asks_same}
-use Rattle.convexd.proofs.machine_run.Drive.step.Goals as goal
+use Rattle.fn_trial.specs.Driven.{IsRest}
+use Rattle.fn_trial.proofs.Driving.{asks_same}
+use Rattle.fn_trial.proofs.machine_run.Drive.step.Goals as goal
 
 pub returns-in_ok-answer-in-Ask : goal.returns-in_ok-answer-in-Ask
 returns-in_ok-answer-in-Ask c whole drives =

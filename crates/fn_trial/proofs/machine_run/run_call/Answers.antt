@@ -4,9 +4,9 @@ use Rattle.fn_tree.specs.Functions.{course_of}
 use Rattle.fn_tree.specs.SyntaxViews.{module_view}
 use Rattle.fn_tree.specs.declared.stop.Outcome.{Outcome}
 use Rattle.fn_vm.specs.Machines.{start_view}
-use Rattle.convexd.specs.Driven.{Ends, OneMore, Steps}
-use Rattle.convexd.proofs.Driving.{none_left}
-use Rattle.convexd.proofs.machine_run.run_call.Goals as goal
+use Rattle.fn_trial.specs.Driven.{Ends, OneMore, Steps}
+use Rattle.fn_trial.proofs.Driving.{none_left}
+use Rattle.fn_trial.proofs.machine_run.run_call.Goals as goal
 
 pub returns-in-Some : goal.returns-in-Some
 returns-in-Some c =

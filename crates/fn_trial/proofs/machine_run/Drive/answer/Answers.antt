@@ -5,8 +5,8 @@ use Rattle.fn_tree.specs.Documents.{Docs}
 use Rattle.fn_tree.specs.Run.{with_puts}
 use Rattle.fn_tree.specs.Scan.{answer}
 use Rattle.fn_tree.specs.declared.stop.Put.{Put}
-use Rattle.convexd.proofs.Driving.{asked_more}
-use Rattle.convexd.proofs.machine_run.Drive.answer.Goals as goal
+use Rattle.fn_trial.proofs.Driving.{asked_more}
+use Rattle.fn_trial.proofs.machine_run.Drive.answer.Goals as goal
 
 pub returns : goal.returns
 returns c code whole q next asks waits rest =

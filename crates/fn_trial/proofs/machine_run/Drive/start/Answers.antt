@@ -4,8 +4,8 @@ use Rattle.fn_code.specs.declared.code.Code.{Code}
 use Rattle.fn_tree.specs.Functions.{course_of}
 use Rattle.fn_tree.specs.SyntaxViews.{module_view}
 use Rattle.fn_vm.specs.Machines.{start_view}
-use Rattle.convexd.proofs.Driving.{whole_rest}
-use Rattle.convexd.proofs.machine_run.Drive.start.Goals as goal
+use Rattle.fn_trial.proofs.Driving.{whole_rest}
+use Rattle.fn_trial.proofs.machine_run.Drive.start.Goals as goal
 
 pub returns : goal.returns
 returns c schema ds =

@@ -1,5 +1,5 @@
 //! Each form of the language by the machine, compared with the plain program.
-use crate::machine_run::run_call;
+use crate::run_call;
 use cv_values::{Doc, DocId, Fields, Memory, Text, Val};
 use fn_load::{Program, load};
 use fn_plain::PlainRun;
@@ -88,39 +88,60 @@ fn are_same(a: &PlainRun, b: &PlainRun) -> bool {
     same && a.writes.as_slice() == b.writes.as_slice()
 }
 
-// Whether the machine's run of `m:f` with this body is the plain program's.
-fn agrees(alloc: Global, docs: &[Doc], body: &str) -> Result<bool, Fail> {
-    let program = program_of(alloc, body)?;
-    let udf = Text::of(alloc, "m:f")?;
-    let args = Fields::new(alloc);
-    let origin = Some(Origin {
+// The call of `m:f` by session 1.
+fn origin() -> Option<Origin> {
+    Some(Origin {
         session: 1,
         request: 1,
         now: 5,
-    });
-    let mut runs = Runs { count: 0 };
+    })
+}
+
+// The machine's run of `m:f`, and how many runs were begun for it.
+fn by_machine(alloc: Global, program: &Program, docs: &[Doc]) -> Result<(PlainRun, u64), Memory> {
+    let udf = Text::of(alloc, "m:f")?;
+    let args = Fields::new(alloc);
     let start = Start {
         udf: &udf,
         args: &args,
-        origin,
+        origin: origin(),
     };
-    let by_machine = run_call(alloc, &program, &start, docs, &mut runs)?;
+    let mut runs = Runs { count: 0 };
+    let run = run_call(alloc, program, &start, docs, &mut runs)?;
+    Ok((run, runs.count))
+}
+
+fn by_plain_program(alloc: Global, program: &Program, docs: &[Doc]) -> Result<PlainRun, Memory> {
+    let udf = Text::of(alloc, "m:f")?;
+    let args = Fields::new(alloc);
     let start = fn_plain::Start {
         udf: &udf,
         args: &args,
-        origin,
+        origin: origin(),
     };
-    let plain = fn_plain::run(alloc, &program.checked, &start, docs)?;
-    Ok(runs.count == 1 && are_same(&by_machine, &plain))
+    fn_plain::run(alloc, &program.checked, &start, docs)
+}
+
+// Whether the machine's run of `m:f` with this body is the plain program's.
+fn agrees(alloc: Global, docs: &[Doc], body: &str) -> Result<bool, Fail> {
+    let program = program_of(alloc, body)?;
+    let plain = by_plain_program(alloc, &program, docs)?;
+    let (run, count) = by_machine(alloc, &program, docs)?;
+    Ok(count == 1 && are_same(&run, &plain))
+}
+
+fn three_docs(alloc: Global) -> Result<Vec<Doc>, Memory> {
+    let mut docs = Vec::new(alloc);
+    for r in 1..4u32 {
+        docs.push(doc(alloc, r)?)?;
+    }
+    Ok(docs)
 }
 
 #[test]
 fn the_machine_agrees_with_the_plain_program(rt: HostRuntime) -> Result<(), Fail> {
     let alloc = rt.alloc();
-    let mut docs = Vec::new(alloc);
-    for r in 1..4u32 {
-        docs.push(doc(alloc, r)?)?;
-    }
+    let docs = three_docs(alloc)?;
     for body in BODIES {
         assert!(rt; agrees(alloc, docs.as_slice(), body)?, "{body}");
     }
