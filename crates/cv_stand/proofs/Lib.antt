@@ -8,5 +8,4 @@ pub mod Playing
 pub mod ScriptEvents
 pub mod ScriptWords
 pub mod Texts
-pub mod Turns
 pub mod Writes

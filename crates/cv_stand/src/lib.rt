@@ -12,11 +12,7 @@ mod output;
 mod script;
 mod script_player;
 mod script_reader;
-#[cfg(test)]
-mod script_tests;
 mod stand;
-#[cfg(test)]
-mod turn_tests;
 
 pub use laws::{scripts_make_one_log, worked_plays};
 pub use lines::{line_text, split_line};

@@ -1,5 +1,5 @@
-use crate::{Event, read_script};
 use cv_json::to_json;
+use cv_stand::{Event, read_script};
 use cv_values::Val;
 use std::alloc::Global;
 use std::test::Fail;

@@ -1,8 +1,8 @@
 //! Two jobs that are stepped by turns over one store: what is sent back, and for which touch.
-use crate::{Event, read_script};
 use cv_core::{Core, SoloStore};
 use cv_json::to_json;
 use cv_run::RunJob;
+use cv_stand::{Event, read_script};
 use cv_store::{Job, JobWent, Runs};
 use cv_values::{Fields, Memory, Text};
 use fn_load::{Program, load};

@@ -1,8 +1,8 @@
 use Rattle.std.proofs.Common.{sym, ◌∙◌}
 use Rattle.cv_core.specs.Solos.{stands_of}
 use Rattle.cv_run.specs.Unders.{under_job}
-use Rattle.cv_stand.proofs.Turns.{after_step, other_over}
-use Rattle.cv_stand.proofs.turn_tests.Two.step_first.Goals as goal
+use Rattle.cv_trial.proofs.Turns.{after_step, other_over}
+use Rattle.cv_trial.proofs.turn_tests.Two.step_first.Goals as goal
 
 pub invariant_of-self : goal.invariant_of-self
 invariant_of-self c =

@@ -2,8 +2,8 @@ use Rattle.std.proofs.Common.{Option, [], sym, subst, ◌∙◌}
 use Rattle.cv_core.specs.Solos.{stands_of}
 use Rattle.cv_run.specs.Unders.{under_job}
 use Rattle.cv_store.specs.Jobs.{Under, GoesOnOver}
-use Rattle.cv_stand.proofs.Turns.{extended, other_over}
-use Rattle.cv_stand.proofs.turn_tests.Two.answer.Goals as goal
+use Rattle.cv_trial.proofs.Turns.{extended, other_over}
+use Rattle.cv_trial.proofs.turn_tests.Two.answer.Goals as goal
 
 pub invariant_of-self : goal.invariant_of-self
 invariant_of-self c =
