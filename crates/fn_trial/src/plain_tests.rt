@@ -174,13 +174,8 @@ fn ends(alloc: Global, program: &Checked, ending: &Ending) -> Result<bool, Memor
 fn errors_end_runs_with_their_cost(rt: HostRuntime) -> Result<(), Fail> {
     let alloc = rt.alloc();
     let program = load(alloc, ERRORS)?;
-    for ending in &ENDINGS {
-        assert!(rt;
-            ends(alloc, &program, ending)?,
-            "{} {:?}",
-            ending.udf,
-            ending.reply
-        );
+    for ending in ENDINGS {
+        assert!(rt; ends(alloc, &program, &ending)?, "{}", ending.udf);
     }
     Ok(())
 }
@@ -290,8 +285,8 @@ fn scanned(alloc: Global, program: &Checked, scan: &Scan) -> Result<PlainRun, Me
 fn scans_read_what_they_consume(rt: HostRuntime) -> Result<(), Fail> {
     let alloc = rt.alloc();
     let program = load(alloc, NUMBERS)?;
-    for scan in &SCANS {
-        let over = scanned(alloc, &program, scan)?;
+    for scan in SCANS {
+        let over = scanned(alloc, &program, &scan)?;
         assert!(rt; over.reply == Reply::Value(Val::Int(scan.reply)));
         for n in scan.touching {
             assert!(rt; is_touched(alloc, &program, &over, *n)?);
@@ -303,18 +298,28 @@ fn scans_read_what_they_consume(rt: HostRuntime) -> Result<(), Fail> {
     Ok(())
 }
 
+fn numbers_reply(alloc: Global, numbers: &[i64]) -> Result<Reply, Memory> {
+    let mut items = Vals::new(alloc);
+    for n in numbers {
+        items.push(Val::Int(*n))?;
+    }
+    Ok(Reply::Value(Val::Arr(items)))
+}
+
+fn top_of_three(alloc: Global, program: &Checked) -> Result<PlainRun, Memory> {
+    let docs = docs_of(alloc, &[1, 2, 3])?;
+    let nine = fields(alloc, &[("n", 9)])?;
+    call(alloc, program, Some(7), "p:top", &nine, docs.as_slice())
+}
+
 // A run sees its own row above those that were there, and reads down to the last row that it took.
 #[test]
 fn pending_rows_are_read(rt: HostRuntime) -> Result<(), Fail> {
     let alloc = rt.alloc();
     let program = load(alloc, NUMBERS)?;
-    let docs = [doc(alloc, 1, 1)?, doc(alloc, 2, 2)?, doc(alloc, 3, 3)?];
-    let nine = fields(alloc, &[("n", 9)])?;
-    let over = call(alloc, &program, Some(7), "p:top", &nine, &docs)?;
-    let mut both = Vals::new(alloc);
-    both.push(Val::Int(9))?;
-    both.push(Val::Int(3))?;
-    assert!(rt; over.reply == Reply::Value(Val::Arr(both)));
+    let over = top_of_three(alloc, &program)?;
+    let both = numbers_reply(alloc, &[9, 3])?;
+    assert!(rt; over.reply == both);
     assert!(rt; !is_touched(alloc, &program, &over, 2)?);
     assert!(rt; is_touched(alloc, &program, &over, 4)?);
     assert_eq!(rt; over.cost, 5);
