@@ -1,5 +1,4 @@
 pub mod Entries
-pub mod EntryTexts
 pub mod Events
 pub mod LineLemmas
 pub mod Logs

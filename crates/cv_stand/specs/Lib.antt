@@ -1,4 +1,3 @@
-pub mod EntryJson
 pub mod EntryLines
 pub mod Events
 pub mod Lines

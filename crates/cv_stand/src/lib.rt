@@ -5,7 +5,6 @@
 #![tactic(auto)]
 
 mod call;
-mod entry_json;
 mod laws;
 mod lines;
 mod output;

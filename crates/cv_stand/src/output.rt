@@ -4,19 +4,19 @@ ghost use Rattle.std.specs.Io.KnownBytes.{Appends};
 ghost use Rattle.cv_outside.specs.Causes.{AppendsPart, Rose};
 ghost use Rattle.cv_values.specs.Trees.{tree};
 ghost use Rattle.fn_tree.specs.Course.{gives, failed};
-ghost use Rattle.fn_tree.specs.EntryViews.{reply_view};
-ghost use Rattle.cv_stand.specs.EntryLines.{entry_lines, reply_json, reply_line};
+ghost use Rattle.fn_tree.specs.EntryViews.{entry_view, reply_view};
+ghost use Rattle.cv_stand.specs.EntryLines.{entry_line, entry_lines, reply_json, reply_line};
 ghost use Rattle.cv_stand.specs.Texts.{with_feeds};
 ghost use Rattle.cv_stand.specs.declared.output.PlayFault.TheVariants.{Memory as MemoryFault};
 
-use crate::entry_json::entry_text;
 use cv_core::Core;
 use cv_json::to_json;
 use cv_outside::{Sink, write_whole};
 use cv_values::{Memory, Text, Val};
-use fn_tree::Reply;
+use fn_tree::{Entry, Reply};
 use serde_json::Value;
 use std::alloc::Global;
+use sync_msgs::entry_text;
 
 /// Why an event wasn't played.
 #[derive(Clone, Copy, Debug, PartialEq, Eq)]
@@ -68,6 +68,15 @@ pub(crate) fn reply_text(alloc: Global, ts: u64, reply: &Reply) -> Result<String
     Ok(format!(in alloc; "reply {ts} {json}")?)
 }
 
+// The line that tells an entry with this timestamp, without its line feed. It copies all that it tells.
+fn log_line(alloc: Global, ts: u64, entry: &Entry) -> Result<String, Memory>
+    ensures { IfOk result (λ s. string_bytes s ≡ entry_line ts (entry_view entry.now)) }
+{
+    let text = entry_text(alloc, ts, entry)?;
+    let json = text.as_str();
+    Ok(format!(in alloc; "entry {json}")?)
+}
+
 /// Writes a line with its line feed.
 pub(crate) fn write_line<K: Sink>(out: &mut K, line: String) -> Result<(), PlayFault>
     ensures ok { OnOk result (Appends (K.held out.old) (K.held out.new) (with_feeds (string_bytes line ∷ []))) }
@@ -105,7 +114,7 @@ pub(crate) fn write_entries<K: Sink>(
         let Some(entry) = core.entry(i + 1) else {
             unreachable!()
         };
-        let line = entry_text(alloc, i + 1, entry)?;
+        let line = log_line(alloc, i + 1, entry)?;
         write_line(out, line)?;
     }
     Ok(())

@@ -1,6 +1,6 @@
 use Rattle.std.proofs.Common.{◌∙◌}
-use Rattle.cv_stand.specs.EntryLines.{entry_members}
-use Rattle.cv_stand.proofs.entry_json.entry_parts.Goals as goal
+use Rattle.sync_msgs.specs.EntryTexts.{entry_members}
+use Rattle.sync_msgs.proofs.entry_json.entry_parts.Goals as goal
 
 pub returns : goal.returns
 unfolding entry_members

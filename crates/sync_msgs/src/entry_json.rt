@@ -1,42 +1,35 @@
 //! The JSON of the log's entries.
-ghost use Rattle.std.specs.Prelude.{◌≡◌, IfOk, map, string_bytes, take};
-ghost use Rattle.cv_values.specs.Value.{object, members_of};
-ghost use Rattle.serde_json.specs.View.{view, items_view, members_view};
-ghost use Rattle.serde_json.specs.Data.{no_members, member, string};
-ghost use Rattle.serde_json.specs.Data as json;
+ghost use Rattle.std.specs.Prelude.{◌≡◌, IfOk, map};
 ghost use Rattle.cv_json.specs.Json.{json_of};
+ghost use Rattle.cv_values.specs.Value.{object, members_of};
 ghost use Rattle.fn_tree.specs.EntryViews.{entry_view, reply_view};
-ghost use Rattle.cv_stand.specs.EntryJson.{doc_tree, write_tree, write_trees, number_tree, session_tree, call_members};
-ghost use Rattle.cv_stand.specs.EntryLines.{reply_tree, entry_members, entry_tree, entry_line};
+ghost use Rattle.serde_json.specs.Data.{member, no_members};
+ghost use Rattle.serde_json.specs.Data as json;
+ghost use Rattle.serde_json.specs.View.{view, items_view, members_view};
+ghost use Rattle.sync_msgs.specs.EntryTexts.{doc_tree, write_tree, write_trees, session_tree, reply_tree, call_members, entry_members, entry_tree, entry_text};
 
+use crate::trees::{named, text_json};
 use cv_json::to_json;
 use cv_keys::Write;
-use cv_values::{Doc, Fields, Memory, Val, doc_value, id_text};
+use cv_values::{Doc, Fields, Memory, Text, Val, doc_value, id_text};
 use fn_tree::{Call, Entry, Reply};
-use serde_json::{Map, Value};
+use serde_json::{Map, Value, put};
 use std::alloc::Global;
 use uuid::Uuid;
 
-fn text_json(alloc: Global, text: &str) -> Result<Value, Memory>
-    ensures { IfOk result (λ j. view j ≡ json.string text.now) }
-{
-    Ok(Value::String(String::from_str(alloc, text)?))
-}
-
-fn named(alloc: Global, name: &str, value: Value) -> Result<Value, Memory>
+// An object with one member.
+fn object_of(alloc: Global, name: &str, value: Value) -> Result<Value, Memory>
     ensures { IfOk result (λ j. view j ≡ json.object (member name.now (view value) no_members)) }
 {
-    let mut members = Map::new(alloc);
-    serde_json::put(&mut members, alloc, name, value)?;
-    Ok(Value::Object(members))
+    Ok(Value::Object(named(alloc, name, value)?))
 }
 
 fn reply_json(alloc: Global, reply: &Reply) -> Result<Value, Memory>
     ensures { IfOk result (λ j. view j ≡ reply_tree (reply_view reply.now)) }
 {
     match reply {
-        Reply::Value(value) => named(alloc, "value", to_json(alloc, value)?),
-        Reply::Failed(why) => named(alloc, "error", text_json(alloc, why.as_str())?),
+        Reply::Value(value) => object_of(alloc, "value", to_json(alloc, value)?),
+        Reply::Failed(why) => object_of(alloc, "error", text_json(alloc, why.as_str())?),
     }
 }
 
@@ -95,15 +88,14 @@ fn args_json(alloc: Global, args: &Fields) -> Result<Value, Memory>
 fn call_json(alloc: Global, call: &Call) -> Result<Map<String, Value>, Memory>
     ensures { IfOk result (λ m. members_view m.entries ≡ call_members call.entry.now) }
 {
-    let mut members = Map::new(alloc);
-    serde_json::put(&mut members, alloc, "args", args_json(alloc, &call.args)?)?;
+    let mut members = named(alloc, "args", args_json(alloc, &call.args)?)?;
     let now = to_json(alloc, &Val::Int(call.now))?;
-    serde_json::put(&mut members, alloc, "now", now)?;
-    serde_json::put(&mut members, alloc, "request", Value::from(call.request))?;
+    put(&mut members, alloc, "now", now)?;
+    put(&mut members, alloc, "request", Value::from(call.request))?;
     let session = session_json(alloc, call.session)?;
-    serde_json::put(&mut members, alloc, "session", session)?;
+    put(&mut members, alloc, "session", session)?;
     let udf = text_json(alloc, call.udf.as_str())?;
-    serde_json::put(&mut members, alloc, "udf", udf)?;
+    put(&mut members, alloc, "udf", udf)?;
     Ok(members)
 }
 
@@ -113,15 +105,15 @@ fn entry_parts(alloc: Global, ts: u64, entry: &Entry) -> Result<Map<String, Valu
     ensures { IfOk result (λ m. members_view m.entries ≡ entry_members ts (entry_view entry.now)) }
 {
     let mut members = call_json(alloc, &entry.call)?;
-    serde_json::put(
+    put(
         &mut members,
         alloc,
         "reply",
         reply_json(alloc, &entry.reply)?,
     )?;
-    serde_json::put(&mut members, alloc, "ts", Value::from(ts))?;
+    put(&mut members, alloc, "ts", Value::from(ts))?;
     let writes = writes_json(alloc, entry.writes.as_slice())?;
-    serde_json::put(&mut members, alloc, "writes", writes)?;
+    put(&mut members, alloc, "writes", writes)?;
     Ok(members)
 }
 
@@ -131,12 +123,16 @@ fn entry_json(alloc: Global, ts: u64, entry: &Entry) -> Result<Value, Memory>
     Ok(Value::Object(entry_parts(alloc, ts, entry)?))
 }
 
-/// The line that tells an entry with this timestamp, without its line feed. It copies all that it tells.
-#[tactic(auto, using(crate::proofs::EntryTexts::entry_no_float))]
-pub(crate) fn entry_text(alloc: Global, ts: u64, entry: &Entry) -> Result<String, Memory>
-    ensures { IfOk result (λ s. string_bytes s ≡ entry_line ts (entry_view entry.now)) }
+/// The JSON of an entry with this timestamp: `args`, `now` (as a value), `reply` (`{"value": v}` or
+/// `{"error": text}`), `request`, `session` (hyphenated, in lower case), `ts` (a number), `udf` and
+/// `writes`, a list of `[id, document or null]`.
+///
+/// It copies all that it tells, the arguments twice, and takes time linear in the entry but for finding
+/// the place of each name.
+#[tactic(auto, using(crate::proofs::NoFloats::entry_no_float))]
+pub fn entry_text(alloc: Global, ts: u64, entry: &Entry) -> Result<Text, Memory>
+    ensures { IfOk result (λ t. t ≡ entry_text ts (entry_view entry.now)) }
 {
     let json = entry_json(alloc, ts, entry)?;
-    let json = json.to_string(alloc)?;
-    Ok(format!(in alloc; "entry {json}")?)
+    Ok(Text::from_string(json.to_string(alloc)?))
 }

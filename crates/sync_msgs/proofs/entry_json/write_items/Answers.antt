@@ -1,8 +1,8 @@
 use Rattle.std.proofs.Common.{◌≡◌, map, take, ap, ◌∙◌, arith}
 use Rattle.std.proofs.lemmas.List.{take_all}
 use Rattle.serde_json.specs.View.{items_of}
-use Rattle.cv_stand.specs.EntryJson.{write_tree}
-use Rattle.cv_stand.proofs.entry_json.write_items.Goals as goal
+use Rattle.sync_msgs.specs.EntryTexts.{write_tree}
+use Rattle.sync_msgs.proofs.entry_json.write_items.Goals as goal
 
 pub returns : goal.returns
 returns c =

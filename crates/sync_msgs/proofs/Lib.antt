@@ -1,0 +1,3 @@
+pub mod NoFloats
+pub mod Numbers
+pub mod ReadChanges

@@ -1,0 +1,11 @@
+pub mod Causes
+pub mod ClientExamples
+pub mod ClientTexts
+pub mod Clients
+pub mod EntryTexts
+pub mod JsonParts
+pub mod MessageViews
+pub mod Messages
+pub mod Numbered
+pub mod ServerTexts
+pub mod TextExamples
