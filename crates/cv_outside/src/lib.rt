@@ -7,6 +7,11 @@
 //! `StdSink` stand over std's readers and writers, and tell of their bytes what these tell.
 #![tactic(auto)]
 
+mod clock;
+mod door;
+mod link;
+mod mem_door;
+mod mem_link;
 mod memory;
 mod plan;
 mod sink;
@@ -14,10 +19,18 @@ mod source;
 mod streams;
 #[cfg(test)]
 mod tests;
+mod trace;
+mod turnable;
 mod whole;
 
+pub use clock::{Clock, MemClock};
+pub use door::Door;
+pub use link::{Got, Link, LinkFail};
+pub use mem_door::MemDoor;
+pub use mem_link::MemLink;
 pub use memory::{MemSink, MemSource};
 pub use sink::Sink;
 pub use source::{Failed, Source};
 pub use streams::{StdSink, StdSource};
+pub use turnable::{Again, Gate, Turnable};
 pub use whole::{INPUT_LIMIT, ReadFault, read_whole, write_whole};

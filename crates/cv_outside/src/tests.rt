@@ -1,4 +1,5 @@
 use super::*;
+use cv_values::Text;
 use std::alloc::Global;
 use std::test::Fail;
 
@@ -74,5 +75,78 @@ fn a_text_is_written_whole_or_in_part(rt: HostRuntime) -> Result<(), Fail> {
     assert_eq!(rt; write_whole(&mut sink, b"abc"), Ok(()));
     assert_eq!(rt; write_whole(&mut sink, b"def"), Err(Failed));
     assert_eq!(rt; sink.bytes(), b"abcde".as_slice());
+    Ok(())
+}
+
+fn told(got: Result<Got, LinkFail>) -> &'static str {
+    match got {
+        Ok(Got::Text(_)) => "text",
+        Ok(Got::Quiet) => "quiet",
+        Ok(Got::Closed) => "closed",
+        Err(LinkFail::Failed) => "failed",
+        Err(LinkFail::Memory) => "memory",
+    }
+}
+
+fn link_with(alloc: Global, text: &str, fails: u64) -> Result<MemLink, Fail> {
+    let mut link = MemLink::new(alloc, [fails].to_vec(alloc)?);
+    link.push(Text::of(alloc, text)?)?;
+    Ok(link)
+}
+
+// Four calls, of which one fails: a text comes, one is sent, none comes, and the link closes.
+#[test]
+fn a_link_fails_at_each_of_its_calls(rt: HostRuntime) -> Result<(), Fail> {
+    let alloc = rt.alloc();
+    let table = [
+        (0, "failed", true, "text", "closed", 1),
+        (1, "text", false, "quiet", "closed", 0),
+        (2, "text", true, "failed", "closed", 1),
+        (3, "text", true, "quiet", "failed", 1),
+        (4, "text", true, "quiet", "closed", 1),
+    ];
+    let text = Text::of(alloc, "b")?;
+    for (fails, first, sends, second, third, sent) in table {
+        let mut link = link_with(alloc, "a", fails)?;
+        assert_eq!(rt; told(link.recv(alloc)), first, "at {fails}");
+        assert_eq!(rt; link.send(alloc, &text).is_ok(), sends, "at {fails}");
+        assert_eq!(rt; told(link.recv(alloc)), second, "at {fails}");
+        link.close();
+        assert_eq!(rt; told(link.recv(alloc)), third, "at {fails}");
+        assert_eq!(rt; link.sent().len(), sent, "at {fails}");
+    }
+    Ok(())
+}
+
+// The second call fails, and the fourth finds no link.
+#[test]
+fn a_door_runs_out_of_links(rt: HostRuntime) -> Result<(), Fail> {
+    let alloc = rt.alloc();
+    let mut links = Vec::new(alloc);
+    links.push(MemLink::new(alloc, Vec::new(alloc)))?;
+    links.push(MemLink::new(alloc, Vec::new(alloc)))?;
+    let mut door = MemDoor::new(alloc, links, [1].to_vec(alloc)?);
+    for gives in [true, false, true, false] {
+        match door.next(alloc) {
+            Ok(link) => {
+                assert!(rt; gives);
+                door.back(link);
+            }
+            Err(why) => {
+                assert!(rt; !gives);
+                assert_eq!(rt; why, LinkFail::Failed);
+            }
+        }
+    }
+    assert_eq!(rt; door.given_back().len(), 2);
+    Ok(())
+}
+
+#[test]
+fn a_clock_stands_still(rt: HostRuntime) -> Result<(), Fail> {
+    let mut clock = MemClock::new(-5);
+    assert_eq!(rt; clock.now(), -5);
+    clock.set(7);
+    assert_eq!(rt; clock.now(), 7);
     Ok(())
 }

@@ -35,10 +35,10 @@ fn as_fields(alloc: Global, object: &Value) -> Result<Option<Fields>, Memory>
 fn only_item(items: &[Value]) -> Option<&Value>
     ensures { option_map (λ v. view v.now) result ≡ only_item (items_view items.now) }
 {
-    match items {
-        [item] => Some(item),
-        _ => None,
+    if items.len() != 1 {
+        return None;
     }
+    items.first()
 }
 
 fn as_arguments(alloc: Global, value: &Value) -> Result<Option<Fields>, Memory>
