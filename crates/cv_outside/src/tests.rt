@@ -126,18 +126,18 @@ fn a_door_runs_out_of_links(rt: HostRuntime) -> Result<(), Fail> {
     links.push(MemLink::new(alloc, Vec::new(alloc)))?;
     links.push(MemLink::new(alloc, Vec::new(alloc)))?;
     let mut door = MemDoor::new(alloc, links, [1].to_vec(alloc)?);
-    for gives in [true, false, true, false] {
-        match door.next(alloc) {
-            Ok(link) => {
-                assert!(rt; gives);
-                door.back(link);
-            }
-            Err(why) => {
-                assert!(rt; !gives);
-                assert_eq!(rt; why, LinkFail::Failed);
-            }
-        }
-    }
+    let Ok(first) = door.next(alloc) else {
+        return Err(Fail::from("no first link"));
+    };
+    door.back(first);
+    let Err(LinkFail::Failed) = door.next(alloc) else {
+        return Err(Fail::from("the second call is to fail"));
+    };
+    let Ok(second) = door.next(alloc) else {
+        return Err(Fail::from("no second link"));
+    };
+    door.back(second);
+    assert_eq!(rt; door.next(alloc).err(), Some(LinkFail::Failed));
     assert_eq!(rt; door.given_back().len(), 2);
     Ok(())
 }
