@@ -37,7 +37,7 @@ not_large input text v w = omega (arith, v.reads.short, w)
 
 pub ends : AtMostOneModule → ModulesHaveNoFault → (input text : List ℕ) → IsCanonical input text → (old new : Option (List ℕ)) (exit : Exit) → Checks input old new exit → IsDoneOrFault exit
 ends one none input text v old new Done w = tt
-ends one none input text v old new Usage w = tt
+ends one none input text v old new Usage w = w
 ends one none input text v old new Read w = tt
 ends one none input text v old new Write w = tt
 ends one none input text v old new Memory w = tt

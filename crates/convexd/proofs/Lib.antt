@@ -1,4 +1,5 @@
 pub mod Checking
+pub mod Commands
 pub mod Replayed
 pub mod Replaying
 pub mod Walked

@@ -50,7 +50,7 @@ good_stop input text stop g w =
 
 pub good_ends : AtMostOneModule → ModulesHaveNoFault → (input : List ℕ) → IsGoodInput input → (old new : Option (List ℕ)) (exit : Exit) → Answers input old new exit → IsDoneOrFault exit
 good_ends one none input g old new Done w = tt
-good_ends one none input g old new Usage w = tt
+good_ends one none input g old new Usage w = w
 good_ends one none input g old new Read w = tt
 good_ends one none input g old new Write w = tt
 good_ends one none input g old new Memory w = tt

@@ -1,5 +1,5 @@
 -- What the command `replay` answers and writes, for each module that meets every check.
-use Rattle.std.specs.Prelude.{◌≡◌, ◌⊎◌, ◌<◌, ◌≤◌, ◌+◌, ℕ, List, [], ◌∷◌, Option, Some, None, length, codes}
+use Rattle.std.specs.Prelude.{◌≡◌, ◌⊎◌, ◌<◌, ◌≤◌, ◌+◌, ℕ, List, [], Option, Some, None, length}
 use Rattle.std.specs.Io.KnownBytes.{Appends}
 use Rattle.cv_outside.specs.Causes.{AppendsPart}
 use Rattle.cv_outside.specs.declared.whole.TheConstants.{INPUT_LIMIT}
@@ -18,10 +18,6 @@ use Rattle.convexd.specs.declared.exit.Exit.{Exit}
 use Rattle.convexd.specs.declared.exit.Exit.TheVariants.{Done, Usage, Module, Script as BadLine, Read, Write, Memory, TooLarge}
 use Rattle.convexd.specs.declared.exit.ModuleFault.{ModuleFault}
 use Rattle.convexd.specs.declared.exit.ModuleFault.TheVariants.{Syntax, Check}
-
--- the words of the command
-abbrev pub replay_words : List (List ℕ)
-replay_words = codes "replay" ∷ []
 
 -- the input is the text of a module that meets every check, the line `%%` and a script, which stops at this bad line or at none and writes this text
 pub record IsPlay (input : List ℕ) (stop : Option ℕ) (text : List ℕ) : Type 0 where
@@ -57,7 +53,7 @@ Answers input old new (Module fault) = IsRefusedBefore input fault × Appends ol
 Answers input old new Write = (stop : Option ℕ) × (text : List ℕ) × IsPlay input stop text × AppendsPart old new text
 Answers input old new Memory = Appends old new [] ⊎ ((stop : Option ℕ) × (text : List ℕ) × IsPlay input stop text × AppendsPart old new text)
 Answers input old new TooLarge = (INPUT_LIMIT < length input) × Appends old new []
-Answers input old new Usage = Appends old new []
+Answers input old new Usage = ⊥
 Answers input old new Read = Appends old new []
 
 -- the answer to a module that isn't loaded for this fault

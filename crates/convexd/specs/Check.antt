@@ -1,5 +1,5 @@
 -- What the command `check` answers and writes.
-use Rattle.std.specs.Prelude.{◌≡◌, ◌<◌, ◌≤◌, ℕ, List, [], ◌∷◌, Option, Some, None, length, codes}
+use Rattle.std.specs.Prelude.{◌≡◌, ◌<◌, ◌≤◌, ℕ, List, [], Option, Some, None, length}
 use Rattle.std.specs.Io.KnownBytes.{Appends}
 use Rattle.cv_outside.specs.Causes.{AppendsPart}
 use Rattle.cv_outside.specs.declared.whole.TheConstants.{INPUT_LIMIT}
@@ -12,10 +12,6 @@ use Rattle.convexd.specs.declared.exit.Exit.{Exit}
 use Rattle.convexd.specs.declared.exit.Exit.TheVariants.{Done, Usage, Module, Script, Read, Write, Memory, TooLarge}
 use Rattle.convexd.specs.declared.exit.ModuleFault.{ModuleFault}
 use Rattle.convexd.specs.declared.exit.ModuleFault.TheVariants.{Syntax, Check}
-
--- the words of the command
-abbrev pub check_words : List (List ℕ)
-check_words = codes "check" ∷ []
 
 -- the input is the text of a module that meets every check, and this is its canonical text
 pub record IsCanonical (input text : List ℕ) : Type 0 where
@@ -36,6 +32,6 @@ Checks input old new (Module fault) = IsRefused input fault × (length input ≤
 Checks input old new Write = (text : List ℕ) × IsCanonical input text × AppendsPart old new text
 Checks input old new TooLarge = (INPUT_LIMIT < length input) × Appends old new []
 Checks input old new (Script line) = ⊥
-Checks input old new Usage = Appends old new []
+Checks input old new Usage = ⊥
 Checks input old new Read = Appends old new []
 Checks input old new Memory = Appends old new []

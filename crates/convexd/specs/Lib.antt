@@ -1,4 +1,5 @@
 pub mod Answering
 pub mod Check
+pub mod Commands
 pub mod Exits
 pub mod Lines

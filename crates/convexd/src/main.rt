@@ -18,15 +18,13 @@ mod replay;
 #[cfg(test)]
 mod tests;
 
-pub use check::check_main;
-pub use command::command;
+pub use command::{check_main, replay_main, run};
 use cv_outside::{StdSink, StdSource};
 pub use exit::{Exit, ModuleFault};
 pub use laws::{
     accepted_modules_end, answers_exclude_each_other, checks_exclude_each_other, good_inputs_end,
 };
 pub use lines::{Parts, cut};
-pub use replay::replay_main;
 use std::process::ExitCode;
 use std::{env, io};
 
@@ -70,6 +68,6 @@ fn main(rt: HostRuntime) -> ExitCode {
     }
     let mut input = StdSource::new(rt.reader());
     let mut out = StdSink::new(io::writer(&rt));
-    let exit = command(alloc, &words, &mut input, &mut out);
+    let exit = run(alloc, &words, &mut input, &mut out);
     report(&rt, exit)
 }

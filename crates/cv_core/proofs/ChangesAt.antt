@@ -1,16 +1,14 @@
 -- The changes of one index among those of writes.
 use Rattle.std.proofs.Common.{◌≡◌, ℕ, zero, suc, ◌+◌, ◌≤◌, Bool, true, false, cond, List, [], ◌∷◌, ◌++◌, Option, Some, None, refl, sym, ap, ◌∙◌, arith}
-use Rattle.std.specs.Prelude.{slice_get, option_and_then, ◌==◌}
+use Rattle.std.specs.Prelude.{slice_get, ◌==◌}
 use Rattle.std.specs.List.{AllByRecursion}
 use Rattle.std.proofs.lemmas.Bool.{and_from, and_parts, eq-eqb, eqb-true}
 use Rattle.cv_values.specs.declared.doc.Doc.{Doc}
-use Rattle.cv_keys.specs.Documents.{index_at}
+use Rattle.cv_keys.specs.Documents.{index_at, indexes_of}
 use Rattle.cv_keys.specs.declared.schema.Index.{Index}
 use Rattle.cv_keys.specs.declared.schema.Schema.{Schema}
-use Rattle.cv_keys.specs.declared.schema.Table.{Table}
 use Rattle.cv_keys.specs.declared.write.Write.{Write}
 use Rattle.fn_tree.proofs.DocumentLemmas.{by_test}
-use Rattle.cv_store.specs.FirstTouch.{indexes_in, indexes_of}
 use Rattle.cv_core.specs.Changes.{doc_key, has_key, gone, put, changes_in, write_changes, is_at, changes_at}
 use Rattle.cv_core.specs.declared.change.Change.{Change}
 
@@ -103,17 +101,13 @@ module _ (n : ℕ) (old new : Option Doc) (table index : ℕ) where
       ∙ ap (λ r. r ++ changes_at table index (changes_in table n old new (j + 1) ys)) (here_none n old new table index table j y (λ t e. absurd (omega (arith, e, p))))
       ∙ in_at (j + 1) i ys x (omega (arith, p)) at
 
-same_at : (index : ℕ) (o : Option Table) → option_and_then (λ (t : Table). slice_get t.indexes index) o ≡ slice_get (indexes_in o) index
-same_at index None = refl
-same_at index (Some t) = refl
-
 module _ (schema : Schema) (table index : ℕ) where
   -- of a write of the table
   pub write_at : (x : Index) (n : ℕ) (w : Write) → index_at schema table index ≡ Some x → w.id.table ≡ table
       → changes_at table index (write_changes schema n w) ≡ gone table index x w.old w.new ++ put table index x n w.new
   write_at x n w at t =
       ap (λ (u : ℕ). changes_at table index (changes_in u n w.old w.new 0 (indexes_of schema u))) t
-      ∙ in_at n w.old w.new table index 0 index (indexes_of schema table) x (omega arith) (sym (same_at index (slice_get schema.tables table)) ∙ at)
+      ∙ in_at n w.old w.new table index 0 index (indexes_of schema table) x (omega arith) at
 
   -- of a write of another table
   pub write_elsewhere : (n : ℕ) (w : Write) → (w.id.table ≡ table → ⊥) → changes_at table index (write_changes schema n w) ≡ []
@@ -135,5 +129,5 @@ module _ (schema : Schema) (table index : ℕ) where
       by_table true q =
           let t : w.id.table ≡ table = eqb-true w.id.table table q in
           ap (λ (u : ℕ). changes_at table index (changes_in u n w.old w.new 0 (indexes_of schema u))) t
-          ∙ no_slot n w.old w.new 0 index (indexes_of schema table) (omega arith) (sym (same_at index (slice_get schema.tables table)) ∙ at)
+          ∙ no_slot n w.old w.new 0 index (indexes_of schema table) (omega arith) at
       by_table false q = write_elsewhere n w (λ t. let f : true ≡ false = sym (eq-eqb w.id.table table t) ∙ q in cc)

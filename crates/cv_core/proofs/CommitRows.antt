@@ -1,6 +1,6 @@
 -- The rows of a core after one entry more.
 use Rattle.std.proofs.Common.{◌≡◌, ℕ, zero, suc, ◌+◌, ◌<◌, ◌≤◌, Bool, true, false, nat_le, cond, List, [], ◌∷◌, ◌++◌, length, take, drop, Option, Some, None, refl, sym, ap, ◌∙◌, subst, length-append, arith}
-use Rattle.std.specs.Prelude.{IfSome, slice_get, option_and_then}
+use Rattle.std.specs.Prelude.{IfSome, slice_get}
 use Rattle.std.specs.List.{AllByRecursion}
 use Rattle.std.proofs.lemmas.Bool.{eqb-true}
 use Rattle.std.proofs.lemmas.Bool.Decides.{nat_tests}
@@ -8,11 +8,10 @@ use Rattle.std.proofs.lemmas.List.{take_all}
 use Rattle.cv_values.specs.IdLaws.{IsId}
 use Rattle.cv_values.specs.declared.doc.Doc.{Doc}
 use Rattle.cv_values.specs.declared.ids.DocId.{DocId}
-use Rattle.cv_keys.specs.Documents.{index_at}
+use Rattle.cv_keys.specs.Documents.{index_at, indexes_of}
 use Rattle.cv_keys.specs.Touch.{DocInRange}
 use Rattle.cv_keys.specs.declared.schema.Index.{Index}
 use Rattle.cv_keys.specs.declared.schema.Schema.{Schema}
-use Rattle.cv_keys.specs.declared.schema.Table.{Table}
 use Rattle.cv_keys.specs.declared.write.Write.{Write}
 use Rattle.cv_docs.specs.Entries.{IsInOrder, AllBefore, AreKnown}
 use Rattle.cv_docs.specs.History.{current, with_all, AreAllowed}
@@ -25,8 +24,8 @@ use Rattle.fn_tree.specs.Schemas.{schema_of}
 use Rattle.fn_tree.specs.SyntaxTree.{ModuleTree}
 use Rattle.fn_tree.proofs.DocumentLemmas.{doc_of_id}
 use Rattle.fn_tree.proofs.TrueEntries.{TellTruly, entry_tells, once_after}
-use Rattle.cv_store.specs.FirstTouch.{indexes_in, indexes_of}
-use Rattle.cv_core.specs.Changes.{doc_key, has_key, DocsInRange, WriteFits, gone, put, changes_in, write_changes, next_version, changes_of, new_docs, changes_at, entries_of, is_at}
+use Rattle.cv_store.specs.Ranges.{DocsInRange}
+use Rattle.cv_core.specs.Changes.{doc_key, has_key, WriteFits, gone, put, changes_in, write_changes, next_version, changes_of, new_docs, changes_at, entries_of, is_at}
 use Rattle.cv_core.specs.Kept.{EntryFits, HoldsRows, shown, keyed}
 use Rattle.cv_core.specs.Versioned.{Versioned, entries_at, shape}
 use Rattle.cv_core.specs.declared.change.Change.{Change}
@@ -40,10 +39,6 @@ use Rattle.cv_core.proofs.Written.{WriteIn, writes_shown}
 
 -- ---- what writes fit
 
-same_at : (index : ℕ) (o : Option Table) → option_and_then (λ (t : Table). slice_get t.indexes index) o ≡ slice_get (indexes_in o) index
-same_at index None = refl
-same_at index (Some t) = refl
-
 range_at : (old new : Option Doc) (xs : List Index) (i : ℕ) (x : Index) → DocsInRange old new xs → slice_get xs i ≡ Some x → DocInRange (Some x) old × DocInRange (Some x) new
 range_at old new [] i x h e = cc
 range_at old new (y ∷ xs) zero x h e = let same : y ≡ x = cc in subst (λ (z : Index). DocInRange (Some z) old × DocInRange (Some z) new) same h.0
@@ -56,7 +51,7 @@ module _ (schema : Schema) (table index : ℕ) (x : Index) (at : index_at schema
 
   pub write_in : (w : Write) → WriteFits schema w → HasOwnId w → WriteIn x table w
   write_in w f own t =
-      let slot : slice_get (indexes_of schema w.id.table) index ≡ Some x = ap (λ (n : ℕ). slice_get (indexes_of schema n) index) t ∙ sym (same_at index (slice_get schema.tables table)) ∙ at in
+      let slot : slice_get (indexes_of schema w.id.table) index ≡ Some x = ap (λ (n : ℕ). slice_get (indexes_of schema n) index) t ∙ at in
       let range = range_at w.old w.new (indexes_of schema w.id.table) index x f.docs slot in
       (place_fits w.id w.old own.0 range.0 f.id, place_fits w.id w.new own.1 range.1 f.id)
 

@@ -19,20 +19,22 @@ use Rattle.cv_store.specs.Stores.{IsRunOf, entry_of}
 use Rattle.cv_store.specs.declared.proposal.Proposal.{Proposal}
 use Rattle.cv_log.specs.Records.{Log}
 use Rattle.cv_core.specs.Changes.{changes_at, changes_of, entries_of}
-use Rattle.cv_core.specs.Cores.{State, state_of, program_of, schema_in, standing, IsRoom, IsCore}
+use Rattle.cv_core.specs.Cores.{State, state_of, program_of, schema_in, alone, StandsWell, IsRoom, IsCore}
 use Rattle.cv_core.specs.Kept.{EntryFits, HoldsRows, shown, keyed}
 use Rattle.cv_core.specs.Versioned.{Versioned, entries_at, shape}
 use Rattle.cv_core.specs.declared.change.Change.{Change}
 use Rattle.cv_core.specs.declared.ready.Room.{Room}
-use Rattle.cv_core.proofs.CoreNext.{May, next_allowed, next_core}
+use Rattle.cv_core.proofs.CoreNext.{May, are_in_range, next_allowed, next_core}
 
-pub may_of : (c : State) (p : Proposal) (r : Room) → IsRunOf (standing [] [] c) p → kept p.call.session p.call.request c.log ≡ None
+pub may_of : (c : State) (p : Proposal) (r : Room) → IsRunOf (alone c) p → kept p.call.session p.call.request c.log ≡ None
     → first_touch (schema_in c) p.reads c.log p.snapshot ≡ None → IsRoom c p r → May (program_of c) c.log p
 may_of c p r run new untouched room = record { answer = run.answer; writes = run.writes; new = new; untouched = untouched; fits = room.fits }
 
--- the log of a core is legal
-pub legal_of : (tree : Module) (log : Log) (v : Versioned) (s : State) → IsCore (module_view tree) log v → state_of tree log v ≡ s → IsLegal (program_of s) s.log
-legal_of tree log v s is e = subst (λ (t : State). IsLegal (program_of t) t.log) e is.legal
+-- the log of a core is legal and in range
+pub well_of : (tree : Module) (log : Log) (v : Versioned) (s : State) → IsCore (module_view tree) log v → state_of tree log v ≡ s → StandsWell s
+well_of tree log v s is e =
+    let well : StandsWell (state_of tree log v) = record { legal = is.legal; in_range = are_in_range (schema_of (module_view tree).tables) log.entries is.fits } in
+    subst StandsWell e well
 
 module _ (tree : Module) (log : Log) (v : Versioned) (p : Proposal) (r : Room) (is : IsCore (module_view tree) log v) (may : May (module_view tree) log.entries p) (room : IsRoom (state_of tree log v) p r) (ts : ℕ) (at : ts ≡ length log.entries + 1) where
   -- the changes of the room are those that the rows need

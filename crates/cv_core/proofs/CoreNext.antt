@@ -1,47 +1,30 @@
 -- What holds of a core after a commit.
-use Rattle.std.proofs.Common.{◌≡◌, ℕ, ◌+◌, Bool, true, false, cond, List, [], ◌∷◌, ◌++◌, length, Some, None, refl, sym, ap, ◌∙◌, subst, arith}
-use Rattle.std.specs.Prelude.{◌==◌}
+use Rattle.std.proofs.Common.{◌≡◌, ℕ, ◌+◌, List, [], ◌∷◌, ◌++◌, length, Some, None, refl, sym, ap, ◌∙◌, subst, arith}
 use Rattle.std.specs.List.{AllByRecursion}
-use Rattle.std.proofs.lemmas.Bool.{and_from, eq-eqb}
+use Rattle.cv_keys.specs.Documents.{indexes_of}
 use Rattle.cv_keys.specs.declared.schema.Schema.{Schema}
 use Rattle.cv_keys.specs.declared.write.Write.{Write}
 use Rattle.cv_docs.specs.History.{with_all, AreAllowed}
-use Rattle.fn_tree.specs.History.{Entry, History, IsLegal, Pair, HasNoPair, start_of, docs_at}
+use Rattle.fn_tree.specs.History.{Entry, History, IsLegal, start_of, docs_at}
 use Rattle.fn_tree.specs.Run.{run}
 use Rattle.fn_tree.specs.Schemas.{schema_of}
 use Rattle.fn_tree.specs.SyntaxTree.{ModuleTree}
 use Rattle.fn_tree.proofs.CommitsAreLegal.{commits_are_legal}
-use Rattle.cv_store.specs.FirstTouch.{indexes_of, first_touch, first_touch_places}
-use Rattle.cv_store.specs.Kept.{is_of, kept_after, kept}
+use Rattle.cv_store.specs.FirstTouch.{first_touch, first_touch_places}
+use Rattle.cv_store.specs.Kept.{kept}
 use Rattle.cv_store.specs.Marks.{entry_marks, marks_by_entry}
+use Rattle.cv_store.specs.Ranges.{DocsInRange, AreInRange}
 use Rattle.cv_store.specs.Stores.{IsAnswer, entry_of}
 use Rattle.cv_store.specs.declared.proposal.Proposal.{Proposal}
+use Rattle.cv_store.proofs.KeptLaws.{not_kept_is_new}
+use Rattle.cv_store.proofs.TouchedPlaces.{touches_go_by_places, none_is_untouched}
 use Rattle.cv_log.specs.Records.{Log}
-use Rattle.cv_core.specs.Changes.{DocsInRange, WriteFits, changes_of, new_docs, changes_at, entries_of}
+use Rattle.cv_core.specs.Changes.{WriteFits, changes_of, new_docs, changes_at, entries_of}
 use Rattle.cv_core.specs.Cores.{IsCore}
 use Rattle.cv_core.specs.Kept.{EntryFits, HoldsRows}
-use Rattle.cv_core.specs.TouchByPlaces.{AreInRange}
 use Rattle.cv_core.specs.Versioned.{Versioned, entries_at, shape}
 use Rattle.cv_core.proofs.CommitRows.{commit_allowed, commit_holds}
 use Rattle.cv_core.proofs.Drops.{all_append}
-use Rattle.cv_core.proofs.TouchedPlaces.{touches_go_by_places, none_is_untouched}
-
--- a request that has no entry
-no_pair : (session request ts : ℕ) (h : History) → kept_after session request ts h ≡ None → HasNoPair (session, request) h
-no_pair session request ts [] e = tt
-no_pair session request ts (f ∷ h) e = go (is_of session request f) refl (no_pair session request (ts + 1) h) e
-  where
-    go : (b : Bool) → is_of session request f ≡ b → (kept_after session request (ts + 1) h ≡ None → HasNoPair (session, request) h)
-        → cond b (Some (ts + 1, f.reply)) (kept_after session request (ts + 1) h) ≡ None → HasNoPair (session, request) (f ∷ h)
-    go true q ih p = cc
-    go false q ih p = (
-      (λ s.
-          let one : session ≡ f.call.session = ap (λ (x : Pair). x.0) s in
-          let two : request ≡ f.call.request = ap (λ (x : Pair). x.1) s in
-          let both : is_of session request f ≡ true = and_from (f.call.session == session) (f.call.request == request) (eq-eqb f.call.session session (sym one)) (eq-eqb f.call.request request (sym two)) in
-          let f : true ≡ false = sym both ∙ q in cc),
-      ih p,
-    )
 
 writes_range : (schema : Schema) (ws : List Write) → AllByRecursion (WriteFits schema) ws → AllByRecursion (λ w. DocsInRange w.old w.new (indexes_of schema w.id.table)) ws
 writes_range schema [] h = tt
@@ -71,7 +54,7 @@ module _ (m : ModuleTree) (log : Log) (v : Versioned) (p : Proposal) (is : IsCor
       let none : first_touch_places (schema_of m.tables) r.reads h p.snapshot ≡ None =
       sym (touches_go_by_places (schema_of m.tables) r.reads h p.snapshot may.answer.ends (are_in_range (schema_of m.tables) h is.fits))
       ∙ ap (λ reads. first_touch (schema_of m.tables) reads h p.snapshot) (sym may.answer.same_reads) ∙ may.untouched in
-      commits_are_legal m h p.snapshot (entry_of p) is.legal (no_pair p.call.session p.call.request 0 h may.new)
+      commits_are_legal m h p.snapshot (entry_of p) is.legal (not_kept_is_new p.call.session p.call.request h may.new)
       (record { reply = may.answer.same_reply; writes = may.writes })
       (none_is_untouched (schema_of m.tables) r.reads h p.snapshot none)
 

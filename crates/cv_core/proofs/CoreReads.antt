@@ -15,7 +15,7 @@ use Rattle.cv_keys.specs.declared.schema.Schema.{Schema}
 use Rattle.cv_keys.specs.declared.schema.Table.{Table}
 use Rattle.cv_docs.specs.Cut as docs_cut
 use Rattle.cv_docs.specs.Rows as docs_rows
-use Rattle.cv_flat.specs.Listed.{Listed}
+use Rattle.cv_docs.specs.IndexRows.{IndexRows}
 use Rattle.fn_tree.specs.Documents.{Docs, doc_of}
 use Rattle.fn_tree.specs.History.{History, AreRuns, docs_at}
 use Rattle.fn_tree.specs.Rows as tree_rows
@@ -106,13 +106,13 @@ module _ (m : ModuleTree) (log : Log) (v : Versioned) (is : IsCore m log v) (ts 
       go true = refl
       go false = refl
 
-  no_tables : (tables : List (List Listed)) (ts : List Table) (n : ℕ) → shape tables ≡ map (λ t. length t.indexes) ts → slice_get ts n ≡ None → slice_get tables n ≡ None
+  no_tables : (tables : List (List IndexRows)) (ts : List Table) (n : ℕ) → shape tables ≡ map (λ t. length t.indexes) ts → slice_get ts n ≡ None → slice_get tables n ≡ None
   no_tables tables ts n e none = go (slice_get tables n) refl
     where
       same : option_map length (slice_get tables n) ≡ option_map (λ (t : Table). length t.indexes) (slice_get ts n)
       same = sym (slice_get-map length tables n) ∙ ap (λ (l : List ℕ). slice_get l n) e ∙ slice_get-map (λ (t : Table). length t.indexes) ts n
 
-      go : (o : Option (List Listed)) → slice_get tables n ≡ o → slice_get tables n ≡ None
+      go : (o : Option (List IndexRows)) → slice_get tables n ≡ o → slice_get tables n ≡ None
       go None q = q
       go (Some l) q =
           let f : ◌≡◌ {A = Option ℕ} (Some (length l)) None = sym (ap (option_map length) q) ∙ same ∙ ap (option_map (λ (t : Table). length t.indexes)) none in cc

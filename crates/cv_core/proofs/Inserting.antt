@@ -5,17 +5,17 @@ use Rattle.std.specs.List.{AllByRecursion}
 use Rattle.std.proofs.lemmas.Bool.{and_from, eq-eqb}
 use Rattle.cv_docs.specs.Entries.{AllEarlier, inserted}
 use Rattle.cv_docs.specs.History.{with_all, AreAllowed}
-use Rattle.cv_flat.specs.Listed.{Listed}
+use Rattle.cv_docs.specs.IndexRows.{IndexRows}
 use Rattle.cv_core.specs.Changes.{is_at, changes_at, entry_of, entries_of}
 use Rattle.cv_core.specs.Versioned.{entries_at, spare_at}
 use Rattle.cv_core.specs.declared.change.Change.{Change}
 
 -- the changes have room
-abbrev pub HasRooms : List Change → List (List Listed) → Type 0
+abbrev pub HasRooms : List Change → List (List IndexRows) → Type 0
 HasRooms cs tables = (table index : ℕ) → length (changes_at table index cs) ≤ spare_at table index tables
 
 -- and they are allowed
-abbrev pub AllAllowed : (ts : ℕ) → List Change → List (List Listed) → Type 0
+abbrev pub AllAllowed : (ts : ℕ) → List Change → List (List IndexRows) → Type 0
 AllAllowed ts cs tables = (table index : ℕ) → AreAllowed (entries_of ts (changes_at table index cs)) (entries_at table index tables)
 
 own : (c : Change) → is_at c.table c.index c ≡ true
@@ -24,7 +24,7 @@ own c = and_from (c.table == c.table) (c.index == c.index) (eq-eqb c.table c.tab
 first_is : (c : Change) (cs : List Change) → changes_at c.table c.index (c ∷ cs) ≡ c ∷ changes_at c.table c.index cs
 first_is c cs = ap (λ b. cond b (c ∷ changes_at c.table c.index cs) (changes_at c.table c.index cs)) (own c)
 
-module _ (ts : ℕ) (c : Change) (cs : List Change) (tables : List (List Listed)) where
+module _ (ts : ℕ) (c : Change) (cs : List Change) (tables : List (List IndexRows)) where
   pub first_room : HasRooms (c ∷ cs) tables → 0 < spare_at c.table c.index tables
   first_room h =
       let some : length (changes_at c.table c.index (c ∷ cs)) ≡ suc (length (changes_at c.table c.index cs)) = ap length (first_is c cs) in
@@ -33,7 +33,7 @@ module _ (ts : ℕ) (c : Change) (cs : List Change) (tables : List (List Listed)
   pub first_later : AllAllowed ts (c ∷ cs) tables → AllEarlier c.key ts (entries_at c.table c.index tables)
   first_later h = (subst (λ (l : List Change). AreAllowed (entries_of ts l) (entries_at c.table c.index tables)) (first_is c cs) (h c.table c.index)).0
 
-  module _ (after : List (List Listed)) (rows : (table index : ℕ) → entries_at table index after ≡ cond (is_at table index c) (inserted (entry_of ts c) (entries_at table index tables)) (entries_at table index tables)) where
+  module _ (after : List (List IndexRows)) (rows : (table index : ℕ) → entries_at table index after ≡ cond (is_at table index c) (inserted (entry_of ts c) (entries_at table index tables)) (entries_at table index tables)) where
     pub rest_room : ((table index : ℕ) → spare_at table index tables ≤ spare_at table index after + cond (is_at table index c) 1 0) → HasRooms (c ∷ cs) tables → HasRooms cs after
     rest_room spare h table index = go (is_at table index c) (spare table index) (h table index)
       where
@@ -61,7 +61,7 @@ module _ (ts : ℕ) (c : Change) (cs : List Change) (tables : List (List Listed)
 
 -- ---- room for each change so far
 
-pub all_stay : (each : ℕ) (tables after : List (List Listed)) → ((t i : ℕ) → spare_at t i tables ≤ spare_at t i after)
+pub all_stay : (each : ℕ) (tables after : List (List IndexRows)) → ((t i : ℕ) → spare_at t i tables ≤ spare_at t i after)
     → (cs : List Change) → AllByRecursion (λ c. each ≤ spare_at c.table c.index tables) cs → AllByRecursion (λ c. each ≤ spare_at c.table c.index after) cs
 all_stay each tables after grows [] h = tt
 all_stay each tables after grows (c ∷ cs) h = (let more = grows c.table c.index in omega (arith, more, h.0), all_stay each tables after grows cs h.1)

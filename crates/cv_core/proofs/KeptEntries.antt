@@ -28,6 +28,7 @@ stands_at session request n (f ∷ h) k e = go (is_of session request f) (stands
         record { place = suc s.place; entry = s.entry; number = omega (arith, s.number); there = s.there; reply = s.reply }
 
 pub kept_found : (session request ts : ℕ) (h : History) (e : Entry) → timestamp_of session request h ≡ Some ts → entry_at ts h ≡ Some e → kept session request h ≡ Some (ts, e.reply)
+unfolding kept
 kept_found session request ts h e t at = go (kept session request h) refl
   where
     go : (o : Option (ℕ × Reply)) → kept session request h ≡ o → kept session request h ≡ Some (ts, e.reply)
@@ -43,6 +44,7 @@ kept_found session request ts h e t at = go (kept session request h) refl
         q ∙ ap Some pair
 
 pub kept_there : (session request ts : ℕ) (h : History) → timestamp_of session request h ≡ Some ts → entry_at ts h ≡ None → ⊥
+unfolding kept
 kept_there session request ts h t none = go (kept session request h) refl
   where
     go : (o : Option (ℕ × Reply)) → kept session request h ≡ o → ⊥

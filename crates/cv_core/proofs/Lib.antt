@@ -20,7 +20,8 @@ pub mod Rooms
 pub mod RoomMade
 pub mod RowSteps
 pub mod SameCore
+pub mod SeenRows
+pub mod Sent
 pub mod Stood
 pub mod Tailed
-pub mod TouchedPlaces
 pub mod Written

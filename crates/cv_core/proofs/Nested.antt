@@ -3,7 +3,7 @@ use Rattle.std.proofs.Common.{◌≡◌, ℕ, zero, suc, ◌+◌, ◌<◌, ◌�
 use Rattle.std.specs.Prelude.{slice_get, option_and_then, ◌==◌}
 use Rattle.std.proofs.lemmas.Bool.{eq-eqb, eqb-true}
 use Rattle.cv_docs.specs.declared.entry.IndexEntry.{IndexEntry}
-use Rattle.cv_flat.specs.Listed.{Listed}
+use Rattle.cv_docs.specs.IndexRows.{IndexRows}
 use Rattle.cv_core.specs.Versioned.{rows_of, entries_or, spare_or, spare_at, shape}
 
 -- ---- an item that is set
@@ -25,15 +25,15 @@ map_set f [] n x y e h = refl
 map_set f (z ∷ xs) zero x y e h = let same : z ≡ x = cc in ap (λ b. b ∷ map f xs) (h ∙ ap f (sym same))
 map_set f (z ∷ xs) (suc n) x y e h = ap (λ l. f z ∷ l) (map_set f xs n x y e h)
 
-module _ (tables : List (List Listed)) (table : ℕ) (old new : List Listed) (there : slice_get tables table ≡ Some old) (within : table < length tables) where
+module _ (tables : List (List IndexRows)) (table : ℕ) (old new : List IndexRows) (there : slice_get tables table ≡ Some old) (within : table < length tables) where
   -- what stands in each index of the changed table, and of the others
-  pub in_table : {B : Type 0} (f : Option Listed → B) (index : ℕ) → f (rows_of table index (set tables table new)) ≡ f (slice_get new index)
+  pub in_table : {B : Type 0} (f : Option IndexRows → B) (index : ℕ) → f (rows_of table index (set tables table new)) ≡ f (slice_get new index)
   in_table f index = ap (λ o. f (option_and_then (λ t. slice_get t index) o)) (set_here tables table new within)
 
-  pub was_in_table : {B : Type 0} (f : Option Listed → B) (index : ℕ) → f (rows_of table index tables) ≡ f (slice_get old index)
+  pub was_in_table : {B : Type 0} (f : Option IndexRows → B) (index : ℕ) → f (rows_of table index tables) ≡ f (slice_get old index)
   was_in_table f index = ap (λ o. f (option_and_then (λ t. slice_get t index) o)) there
 
-  pub elsewhere : {B : Type 0} (f : Option Listed → B) (other index : ℕ) → (other ≡ table → ⊥) → f (rows_of other index (set tables table new)) ≡ f (rows_of other index tables)
+  pub elsewhere : {B : Type 0} (f : Option IndexRows → B) (other index : ℕ) → (other ≡ table → ⊥) → f (rows_of other index (set tables table new)) ≡ f (rows_of other index tables)
   elsewhere f other index h = ap (λ o. f (option_and_then (λ t. slice_get t index) o)) (set_other tables table other new h)
 
   pub same_shape : length new ≡ length old → shape (set tables table new) ≡ shape tables
@@ -41,7 +41,7 @@ module _ (tables : List (List Listed)) (table : ℕ) (old new : List Listed) (th
 
 -- ---- one index of a table
 
-module _ (l : List Listed) (n : ℕ) (old new : Listed) (at : slice_get l n ≡ Some old) (inside : n < length l) where
+module _ (l : List IndexRows) (n : ℕ) (old new : IndexRows) (at : slice_get l n ≡ Some old) (inside : n < length l) where
   by_index : {B : Type 0} (i : ℕ) (P : B → Type 0) (x y : B) → (i ≡ n → P x) → ((i ≡ n → ⊥) → P y) → P (cond (i == n) x y)
   by_index i P x y f g = go (i == n) refl
     where
@@ -65,6 +65,15 @@ module _ (l : List Listed) (n : ℕ) (old new : Listed) (at : slice_get l n ≡ 
       omega (arith, was, is, h))
       (λ s. let same : spare_or (slice_get (set l n new) i) ≡ spare_or (slice_get l i) = ap spare_or (set_other l n i new s) in omega (arith, same))
 
+  pub grow_spare : old.spare ≤ new.spare → (i : ℕ) → spare_or (slice_get l i) ≤ spare_or (slice_get (set l n new) i)
+  grow_spare h i =
+      by_index i (λ (k : ℕ). spare_or (slice_get l i) ≤ spare_or (slice_get (set l n new) i)) 1 0
+      (λ s.
+      let was : spare_or (slice_get l i) ≡ old.spare = ap (λ (k : ℕ). spare_or (slice_get l k)) s ∙ ap spare_or at in
+      let is : spare_or (slice_get (set l n new) i) ≡ new.spare = ap (λ (k : ℕ). spare_or (slice_get (set l n new) k)) s ∙ ap spare_or (set_here l n new inside) in
+      omega (arith, was, is, h))
+      (λ s. let same : spare_or (slice_get (set l n new) i) ≡ spare_or (slice_get l i) = ap spare_or (set_other l n i new s) in omega (arith, same))
+
   pub keep_entries : new.entries ≡ old.entries → (i : ℕ) → entries_or (slice_get (set l n new) i) ≡ entries_or (slice_get l i)
   keep_entries e i = set_entries (λ es. es) e i ∙ same (i == n) (entries_or (slice_get l i))
     where
@@ -73,12 +82,12 @@ module _ (l : List Listed) (n : ℕ) (old new : Listed) (at : slice_get l n ≡ 
       same false es = refl
 
 -- what has room is there
-pub there_from_spare : (l : List Listed) (n : ℕ) → 0 < spare_or (slice_get l n) → n < length l
+pub there_from_spare : (l : List IndexRows) (n : ℕ) → 0 < spare_or (slice_get l n) → n < length l
 there_from_spare [] n h = absurd (omega (arith, h))
 there_from_spare (x ∷ l) zero h = omega arith
 there_from_spare (x ∷ l) (suc n) h = omega (arith, there_from_spare l n h)
 
-pub table_from_spare : (tables : List (List Listed)) (t i : ℕ) → 0 < spare_at t i tables → t < length tables
+pub table_from_spare : (tables : List (List IndexRows)) (t i : ℕ) → 0 < spare_at t i tables → t < length tables
 table_from_spare [] t i h = absurd (omega (arith, h))
 table_from_spare (x ∷ tables) zero i h = omega arith
 table_from_spare (x ∷ tables) (suc t) i h = omega (arith, table_from_spare tables t i h)

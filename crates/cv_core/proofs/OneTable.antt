@@ -3,7 +3,7 @@ use Rattle.std.proofs.Common.{◌≡◌, ℕ, ◌+◌, ◌<◌, ◌≤◌, Bool,
 use Rattle.std.specs.Prelude.{slice_get, ◌==◌, OnOk, Result, Ok, Err}
 use Rattle.std.proofs.lemmas.Bool.{eq-eqb, eqb-true}
 use Rattle.cv_docs.specs.Entries.{inserted}
-use Rattle.cv_flat.specs.Listed.{Listed}
+use Rattle.cv_docs.specs.IndexRows.{IndexRows}
 use Rattle.fn_tree.proofs.DocumentLemmas.{by_test}
 use Rattle.cv_core.specs.Changes.{is_at, entry_of}
 use Rattle.cv_core.specs.Versioned.{rows_of, entries_or, spare_or, entries_at, spare_at}
@@ -19,12 +19,12 @@ eq_turned a b = by_test (a == b)
     (λ q. q ∙ sym (eq-eqb b a (sym (eqb-true a b q))))
     (λ q. q ∙ sym (by_test (b == a) (λ p. let f : true ≡ false = sym (eq-eqb a b (sym (eqb-true b a p))) ∙ q in cc) (λ p. p)))
 
-module _ (tables : List (List Listed)) (table : ℕ) (old new : List Listed) (there : slice_get tables table ≡ Some old) (within : table < length tables) where
+module _ (tables : List (List IndexRows)) (table : ℕ) (old new : List IndexRows) (there : slice_get tables table ≡ Some old) (within : table < length tables) where
   by_table : (t : ℕ) (P : Type 0) → (t ≡ table → P) → ((t ≡ table → ⊥) → P) → P
   by_table t P f g = by_test (t == table) (λ q. f (eqb-true t table q)) (λ q. g (λ e. let f : true ≡ false = sym (eq-eqb t table e) ∙ q in cc))
 
   -- what stays in each index of the table stays everywhere
-  pub stays_at : {B : Type 0} (f : Option Listed → B) (i : ℕ) → f (slice_get new i) ≡ f (slice_get old i) → (t : ℕ) → f (rows_of t i (set tables table new)) ≡ f (rows_of t i tables)
+  pub stays_at : {B : Type 0} (f : Option IndexRows → B) (i : ℕ) → f (slice_get new i) ≡ f (slice_get old i) → (t : ℕ) → f (rows_of t i (set tables table new)) ≡ f (rows_of t i tables)
   stays_at f i same t = by_table t (f (rows_of t i (set tables table new)) ≡ f (rows_of t i tables))
       (λ e.
       ap (λ (k : ℕ). f (rows_of k i (set tables table new))) e ∙ in_table tables table old new there within f i ∙ same ∙ sym (was_in_table tables table old new there within f i)

@@ -8,7 +8,7 @@ use Rattle.cv_keys.specs.Documents.{index_at}
 use Rattle.cv_keys.specs.declared.schema.Index.{Index}
 use Rattle.cv_keys.specs.declared.schema.Schema.{Schema}
 use Rattle.cv_keys.specs.declared.write.Write.{Write}
-use Rattle.cv_flat.specs.Listed.{Listed}
+use Rattle.cv_docs.specs.IndexRows.{IndexRows}
 use Rattle.fn_tree.proofs.DocumentLemmas.{by_test}
 use Rattle.cv_core.specs.Changes.{doc_key, has_key, gone, put, write_changes, next_version, changes_of, is_at, changes_at}
 use Rattle.cv_core.specs.Versioned.{spare_at}
@@ -51,7 +51,7 @@ module _ (schema : Schema) (table index : ℕ) where
       omega (arith, e, f, g)
 
 -- where an index has changes at all, it has room for so many
-some_room : (table index each : ℕ) (tables : List (List Listed)) (cs : List Change) → AllByRecursion (λ c. each ≤ spare_at c.table c.index tables) cs
+some_room : (table index each : ℕ) (tables : List (List IndexRows)) (cs : List Change) → AllByRecursion (λ c. each ≤ spare_at c.table c.index tables) cs
     → (changes_at table index cs ≡ []) ⊎ (each ≤ spare_at table index tables)
 some_room table index each tables [] h = inl refl
 some_room table index each tables (c ∷ cs) h = go (is_at table index c) refl (some_room table index each tables cs h.1)
@@ -64,7 +64,7 @@ some_room table index each tables (c ∷ cs) h = go (is_at table index c) refl (
         (subst (λ (t : ℕ). each ≤ spare_at t c.index tables) (eqb-true c.table table parts.0) h.0))
     go false q ih = ih
 
-pub room_at : (schema : Schema) (table index n each : ℕ) (tables : List (List Listed)) (ws : List Write) → 2 * length ws ≤ each
+pub room_at : (schema : Schema) (table index n each : ℕ) (tables : List (List IndexRows)) (ws : List Write) → 2 * length ws ≤ each
     → AllByRecursion (λ c. each ≤ spare_at c.table c.index tables) (changes_of schema n ws) → length (changes_at table index (changes_of schema n ws)) ≤ spare_at table index tables
 room_at schema table index n each tables ws l h = go (some_room table index each tables (changes_of schema n ws) h)
   where

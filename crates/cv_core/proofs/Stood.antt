@@ -1,15 +1,22 @@
 -- A store over a core goes on as its core does.
-use Rattle.std.proofs.Common.{◌≡◌, inl, inr, ℕ, zero, suc, ◌≤◌, [], ◌∷◌, ◌++◌, length, drop, None, refl, sym, ap, ◌∙◌, subst, append-nil, length-append, arith}
-use Rattle.fn_tree.specs.History.{Entry, History, IsLegal}
+use Rattle.std.proofs.Common.{◌≡◌, inl, inr, ℕ, zero, suc, ◌≤◌, [], ◌∷◌, ◌++◌, length, drop, refl, sym, ap, ◌∙◌, subst, append-nil, length-append, arith}
+use Rattle.std.specs.Prelude.{Result, Ok, Err, option_map}
+use Rattle.fn_tree.specs.History.{Entry, History}
+use Rattle.fn_tree.specs.SyntaxViews.{module_view}
+use Rattle.cv_store.specs.Cache.{untouched_by}
 use Rattle.cv_store.specs.FirstTouch.{first_touch}
 use Rattle.cv_store.specs.Kept.{kept}
+use Rattle.cv_store.specs.Marks.{entry_marks}
 use Rattle.cv_store.specs.Stores.{Standing, Name, Extends, Reads, StandIn, Commits, IsRunOf, entry_of}
+use Rattle.cv_store.specs.Turns.{OneTurn, no_turns}
 use Rattle.cv_store.specs.declared.proposal.Ended.{Ended}
 use Rattle.cv_store.specs.declared.proposal.Ended.TheVariants.{Committed, Known, SentBack}
 use Rattle.cv_store.specs.declared.proposal.Proposal.{Proposal}
-use Rattle.cv_core.specs.Cores.{State, program_of, schema_in, standing}
+use Rattle.cv_store.specs.declared.turns.Turns.{Turns}
+use Rattle.cv_core.specs.Cores.{State, program_of, schema_in, standing, alone, StandsWell, IsSameButRoom}
 use Rattle.cv_core.specs.Ends.{Ends}
 use Rattle.cv_core.specs.Solos.{Solo, stands_of}
+use Rattle.cv_core.specs.Versioned.{entries_at}
 
 skipped : (es : History) (f : Entry) (h : History) → StandIn es h → StandIn es (f ∷ h)
 skipped [] f h s = tt
@@ -33,72 +40,99 @@ pub drop_whole : (h : History) → drop (length h) h ≡ []
 drop_whole [] = refl
 drop_whole (e ∷ h) = drop_whole h
 
--- the log of the core goes on by these entries
-pub extends_by : (name : Name) (n : ℕ) (c d : State) (more : History) → program_of d ≡ program_of c → d.log ≡ c.log ++ more → n ≤ length c.log → IsLegal (program_of d) d.log
-    → Extends (standing name (drop n c.log) c) (standing name (drop n d.log) d) more
-extends_by name n c d more p e l legal = record {
-  program = p;
-  name = refl;
-  seen = (more, e);
-  legal = legal;
-  mine = ap (drop n) e ∙ drop_end n c.log more l;
-  stands = stand_drop n d.log;
-}
+-- a store whose own entries begin after n, before and after a step
+module _ (name : Name) (n : ℕ) (t u : Turns) (c d : State) (within : n ≤ length c.log) (program : program_of d ≡ program_of c) (well : StandsWell d) where
+  -- the log of the core goes on by these entries
+  extends_by : (more : History) → d.log ≡ c.log ++ more → Extends (standing name (drop n c.log) t c) (standing name (drop n d.log) u d) more
+  extends_by more log = record {
+    program = program;
+    name = refl;
+    seen = (more, log);
+    legal = well.legal;
+    in_range = well.in_range;
+    mine = ap (drop n) log ∙ drop_end n c.log more within;
+    stands = stand_drop n d.log;
+  }
 
--- the log stays
-pub reads_only : (name : Name) (n : ℕ) (c d : State) → program_of d ≡ program_of c → d.log ≡ c.log → n ≤ length c.log → IsLegal (program_of d) d.log
-    → Reads (standing name (drop n c.log) c) (standing name (drop n d.log) d)
-reads_only name n c d p e l legal = record {
-  extends = extends_by name n c d [] p (e ∙ sym (append-nil c.log)) l legal;
-  cache = refl;
-}
+  -- log and cache stay
+  reads_only : d.log ≡ c.log → d.cache ≡ c.cache → Reads (standing name (drop n c.log) t c) (standing name (drop n d.log) u d)
+  reads_only log cache = record { extends = extends_by [] (log ∙ sym (append-nil c.log)); cache = cache }
 
--- how a commit ends at the core is how it ends at the store
-pub commits : (name : Name) (n : ℕ) (c d : State) (p : Proposal) (e : Ended) → n ≤ length c.log → program_of d ≡ program_of c → IsLegal (program_of d) d.log → Ends c d p e
-    → Commits (standing name (drop n c.log) c) (standing name (drop n d.log) d) p e
-commits name n c d p (Committed ts) l prog legal h = (
-  c.log,
-  record {
-    extends = extends_by name n c d (entry_of p ∷ []) prog h.0 l legal;
-    seen = ([], sym (append-nil c.log));
-    last = h.0;
-    new = h.1;
-    untouched = h.2;
-    cache = refl;
-  },
-  (let count = ap length h.0 ∙ length-append c.log (entry_of p ∷ []) in omega (arith, count, h.3)),
-)
-commits name n c d p (Known ts reply) l prog legal h =
-    record { reads = reads_only name n c d prog h.0 l legal; same_reply = ap (kept p.call.session p.call.request) h.0 ∙ h.1 }
-commits name n c d p (SentBack touch) l prog legal h = (
-  record { reads = reads_only name n c d prog h.0 l legal; same_reply = ap (kept p.call.session p.call.request) h.0 ∙ h.1 },
-  ap (λ (k : History). first_touch (schema_in c) p.reads k p.snapshot) h.0 ∙ h.2,
-)
+  -- how a commit ends at the core is how it ends at the store
+  commits : (p : Proposal) (e : Ended) → Ends c d p e → Commits (standing name (drop n c.log) t c) (standing name (drop n d.log) u d) p e
+  commits p (Committed ts) h =
+      let count = ap length h.0 ∙ length-append c.log (entry_of p ∷ []) in
+      let last : ts ≡ length d.log = omega (arith, count, h.3) in (
+        c.log,
+        record {
+          extends = extends_by (entry_of p ∷ []) h.0;
+          seen = ([], sym (append-nil c.log));
+          last = h.0;
+          new = h.1;
+          untouched = h.2;
+          cache = h.4 ∙ ap (λ (k : ℕ). option_map (untouched_by (entry_marks (schema_in c) k (entry_of p))) c.cache) last;
+        },
+        last,
+      )
+  commits p (Known ts reply) h = record {
+    reads = reads_only (ap (λ (x : State). x.log) h.0) (ap (λ (x : State). x.cache) h.0);
+    same_reply = ap (λ (x : State). kept p.call.session p.call.request x.log) h.0 ∙ h.1;
+  }
+  commits p (SentBack touch) h = (
+    record {
+      reads = reads_only (ap (λ (x : State). x.log) h.0) (ap (λ (x : State). x.cache) h.0);
+      same_reply = ap (λ (x : State). kept p.call.session p.call.request x.log) h.0 ∙ h.1;
+    },
+    ap (λ (x : State). first_touch (schema_in c) p.reads x.log p.snapshot) h.0 ∙ h.2,
+  )
 
--- the store of a core that was only read
-pub solo_reads : (s : Solo) (core d : State) (start : ℕ) → record { core = core; start = start } ≡ s → start ≤ length core.log → program_of d ≡ program_of core → d.log ≡ core.log
-    → IsLegal (program_of d) d.log → Reads (stands_of s) (stands_of (record { core = d; start = start }))
-solo_reads s core d start e l p k legal =
-    subst (λ (t : Solo). Reads (stands_of t) (stands_of (record { core = d; start = start }))) e (reads_only (start ∷ []) start core d p k l legal)
+-- ---- a store, opened
 
-pub solo_commits : (s : Solo) (core c d : State) (start : ℕ) (p : Proposal) (e : Ended) → record { core = core; start = start } ≡ s → start ≤ length core.log
-    → program_of c ≡ program_of core → c.log ≡ core.log → program_of d ≡ program_of c → IsLegal (program_of d) d.log → Ends c d p e
-    → Commits (stands_of s) (stands_of (record { core = d; start = start })) p e
-solo_commits s core c d start p e same l prog log prog' legal h =
-    subst (λ (t : Solo). Commits (stands_of t) (stands_of (record { core = d; start = start })) p e) same
-    (subst (λ (x : Standing). Commits x (stands_of (record { core = d; start = start })) p e) stood
-    (commits (start ∷ []) start c d p e (subst (λ (k : History). start ≤ length k) (sym log) l) prog' legal h))
-  where
-    stood : standing (start ∷ []) (drop start c.log) c ≡ standing (start ∷ []) (drop start core.log) core
-    stood = λ i. record { program = prog i; name = start ∷ []; seen = log i; mine = drop start (log i); cache = None }
+module _ (s : Solo) (core : State) (start : ℕ) (t : Turns) (is : record { core = core; start = start; turns = t } ≡ s) where
+  -- one step more was counted
+  pub solo_turn : {A E : Type 0} (after : Turns → Turns) (u : Turns) (r : Result A E) → u ≡ after t → OneTurn after s.turns u r
+  solo_turn after u (Ok x) e = e ∙ ap (λ (x : Solo). after x.turns) is
+  solo_turn after u (Err x) e = inl (e ∙ ap (λ (x : Solo). after x.turns) is)
 
--- the proposal's run, at the core
-pub solo_run : (s : Solo) (core c : State) (start : ℕ) (p : Proposal) → record { core = core; start = start } ≡ s → program_of c ≡ program_of core → c.log ≡ core.log
-    → IsRunOf (stands_of s) p → IsRunOf (standing [] [] c) p
-solo_run s core c start p same prog log run =
-    let here : IsRunOf (stands_of (record { core = core; start = start })) p = subst (λ (t : Solo). IsRunOf (stands_of t) p) (sym same) run in
-    let alone : IsRunOf (standing [] [] core) p = record { snapshot = here.snapshot; answer = here.answer; writes = here.writes } in
-    subst (λ (x : Standing). IsRunOf x p) stood alone
-  where
-    stood : standing [] [] core ≡ standing [] [] c
-    stood = λ i. record { program = sym prog i; name = []; seen = sym log i; mine = []; cache = None }
+  module _ (within : start ≤ length core.log) where
+    pub solo_well : StandsWell core → Reads (stands_of s) (stands_of s)
+    solo_well well = subst (λ (x : Solo). Reads (stands_of x) (stands_of x)) is (reads_only (start ∷ []) start t t core core within refl well refl refl)
+
+    -- the store of a core that made room at the most
+    pub solo_room : (d : State) (u : Turns) → IsSameButRoom core d → StandsWell d → Reads (stands_of s) (stands_of (record { core = d; start = start; turns = u }))
+    solo_room d u same well =
+        subst (λ (x : Solo). Reads (stands_of x) (stands_of (record { core = d; start = start; turns = u }))) is
+        (reads_only (start ∷ []) start t u core d within (ap module_view same.tree) well same.log same.cache)
+
+    -- the store of a core that was only read
+    pub solo_reads : (d : State) (u : Turns) → d ≡ core → StandsWell d → Reads (stands_of s) (stands_of (record { core = d; start = start; turns = u }))
+    solo_reads d u same well = solo_room d u room well
+      where
+        room : IsSameButRoom core d
+        room = record {
+          tree = ap (λ (x : State). x.tree) same;
+          log = ap (λ (x : State). x.log) same;
+          docs = ap (λ (x : State). x.rows.docs) same;
+          rows = λ table index. ap (λ (x : State). entries_at table index x.rows.tables) same;
+          cache = ap (λ (x : State). x.cache) same;
+        }
+
+    pub solo_commits : (c d : State) (u : Turns) (p : Proposal) (e : Ended) → IsSameButRoom core c → program_of d ≡ program_of c → StandsWell d → Ends c d p e
+        → Commits (stands_of s) (stands_of (record { core = d; start = start; turns = u })) p e
+    solo_commits c d u p e same program well h =
+        subst (λ (x : Solo). Commits (stands_of x) (stands_of (record { core = d; start = start; turns = u })) p e) is
+        (subst (λ (x : Standing). Commits x (stands_of (record { core = d; start = start; turns = u })) p e) stood
+        (commits (start ∷ []) start t u c d (subst (λ (k : History). start ≤ length k) (sym same.log) within) program well p e h))
+      where
+        stood : standing (start ∷ []) (drop start c.log) t c ≡ standing (start ∷ []) (drop start core.log) t core
+        stood = λ i. record { program = module_view (same.tree i); name = start ∷ []; seen = same.log i; mine = drop start (same.log i); cache = same.cache i; turns = t }
+
+  -- the proposal's run, at the core
+  pub solo_run : (c : State) (p : Proposal) → IsSameButRoom core c → IsRunOf (stands_of s) p → IsRunOf (alone c) p
+  solo_run c p same run =
+      let here : IsRunOf (stands_of (record { core = core; start = start; turns = t })) p = subst (λ (x : Solo). IsRunOf (stands_of x) p) (sym is) run in
+      let there : IsRunOf (alone core) p = record { snapshot = here.snapshot; answer = here.answer; writes = here.writes } in
+      subst (λ (x : Standing). IsRunOf x p) stood there
+    where
+      stood : alone core ≡ alone c
+      stood = λ i. record { program = module_view (sym same.tree i); name = []; seen = sym same.log i; mine = []; cache = sym same.cache i; turns = no_turns }

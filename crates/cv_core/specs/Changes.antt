@@ -1,20 +1,18 @@
 -- What writes change in the rows of indexes.
 use Rattle.std.specs.Prelude.{ℕ, ◌+◌, Bool, false, ◌&&◌, ◌==◌, nat_eq, cond, List, [], ◌∷◌, ◌++◌, map, filter, Option, Some, None, IsSome, slice_get}
-use Rattle.std.specs.List.{AllByRecursion}
 use Rattle.std.specs.Cmp.Lexicographic.{pointwise}
 use Rattle.cv_values.specs.IdLaws.{IsId}
 use Rattle.cv_values.specs.declared.doc.Doc.{Doc}
-use Rattle.cv_keys.specs.Documents.{place}
+use Rattle.cv_keys.specs.Documents.{place, indexes_of}
 use Rattle.cv_keys.specs.KeyBytes.{place_key}
-use Rattle.cv_keys.specs.Touch.{DocInRange}
 use Rattle.cv_keys.specs.declared.schema.Index.{Index}
 use Rattle.cv_keys.specs.declared.schema.Schema.{Schema}
 use Rattle.cv_keys.specs.declared.write.Write.{Write}
 use Rattle.cv_docs.specs.declared.entry.IndexEntry.{IndexEntry}
 use Rattle.fn_tree.specs.Documents.{Docs, and_doc}
 use Rattle.cv_reads.specs.declared.mark.Mark.{Mark}
-use Rattle.cv_store.specs.FirstTouch.{indexes_of}
 use Rattle.cv_store.specs.Marks.{index_marks}
+use Rattle.cv_store.specs.Ranges.{DocsInRange}
 use Rattle.cv_core.specs.declared.change.Change.{Change}
 
 -- the key of a document in an index
@@ -81,10 +79,6 @@ abbrev pub entries_of : (ts : ℕ) → List Change → List IndexEntry
 entries_of ts cs = map (entry_of ts) cs
 
 -- ---- what the key order law speaks of
-
--- the places of a write's documents in these indexes are in range
-abbrev pub DocsInRange : (old new : Option Doc) → List Index → Type 0
-DocsInRange old new xs = AllByRecursion (λ x. DocInRange (Some x) old × DocInRange (Some x) new) xs
 
 abbrev pub IsTable : Schema → ℕ → Type 0
 IsTable schema table = IsSome (slice_get schema.tables table)

@@ -4,5 +4,4 @@ pub mod Ends
 pub mod Kept
 pub mod Solos
 pub mod Tailing
-pub mod TouchByPlaces
 pub mod Versioned

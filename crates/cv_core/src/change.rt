@@ -4,8 +4,8 @@ ghost use Rattle.std.specs.List.{AllByRecursion};
 ghost use Rattle.cv_values.specs.IdLaws.{IsId};
 ghost use Rattle.cv_keys.specs.Touch.{DocInRange};
 ghost use Rattle.fn_tree.specs.Documents.{and_doc};
-ghost use Rattle.cv_store.specs.FirstTouch.{indexes_of};
-ghost use Rattle.cv_core.specs.Changes.{has_key, gone, put, changes_in, write_changes, next_version, changes_of, new_docs, DocsInRange, WriteFits};
+ghost use Rattle.cv_store.specs.Ranges.{DocsInRange};
+ghost use Rattle.cv_core.specs.Changes.{has_key, gone, put, changes_in, write_changes, next_version, changes_of, new_docs, WriteFits};
 
 use cv_keys::{Index, Key, Schema, Write, index_key};
 use cv_values::{Doc, Memory};
@@ -18,16 +18,6 @@ pub(crate) struct Change {
     pub index: u32,
     pub key: Key,
     pub version: Option<u64>,
-}
-
-/// The indexes of a table, none where it isn't there.
-pub(crate) fn indexes_of(schema: &Schema, table: u32) -> &[Index]
-    ensures { result.now ≡ indexes_of schema.now table }
-{
-    match schema.tables.as_slice().get(table as usize) {
-        None => &[],
-        Some(table) => table.indexes.as_slice(),
-    }
 }
 
 /// The changes of writes, whose new documents are numbered from `first` on.
@@ -102,7 +92,7 @@ fn push_write(
         version,
         &w.old,
         &w.new,
-        indexes_of(schema, table),
+        schema.indexes_of(table),
     )
 }
 

@@ -1,9 +1,14 @@
-//! Laws of the first touch by places.
-ghost use Rattle.cv_core.specs.TouchByPlaces.{TouchesGoByPlaces, NoneIsUntouched};
+//! What holds of the types, whatever is called.
+use crate::solo::SoloStore;
+use crate::the_core::Core;
+use cv_store::Proposal;
 
-/// The first touch by key bytes is that by places, for ends and documents that the key order law speaks
-/// of; and where there is none, no later entry touches an interval.
-pub fn touch_by_places()
-    ensures touches { TouchesGoByPlaces }
-    ensures none { NoneIsUntouched }
-{}
+fn crosses<T: Send>(_value: &T) {}
+
+/// Cores, stores over them and proposals may go to another thread: this function is checked, and does
+/// nothing.
+pub fn cores_cross(core: &Core, store: &SoloStore, proposal: &Proposal) {
+    crosses(core);
+    crosses(store);
+    crosses(proposal);
+}

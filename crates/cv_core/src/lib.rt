@@ -19,7 +19,7 @@ mod tail;
 mod tests;
 mod the_core;
 
-pub use laws::touch_by_places;
+pub use laws::cores_cross;
 pub use ready::Ready;
 pub use solo::SoloStore;
 pub use the_core::Core;

@@ -3,7 +3,6 @@ ghost use Rattle.std.specs.Prelude.{◌≡◌, ◌++◌, IfOk, OnOk};
 ghost use Rattle.cv_store.specs.Marks.{index_marks, write_marks, writes_marks};
 ghost use Rattle.cv_core.specs.Changes.{marks_in};
 
-use crate::change::indexes_of;
 use cv_keys::{Index, Schema, Write, index_key};
 use cv_reads::Mark;
 use cv_values::{Doc, Memory};
@@ -38,7 +37,7 @@ fn push_write(
     ensures { OnOk result (marks.new.items ≡ marks.old.items ++ write_marks schema.now ts number w.now) }
 {
     let table = u32::from(w.id.table);
-    let indexes = indexes_of(schema, table);
+    let indexes = schema.indexes_of(table);
     push_doc(alloc, marks, ts, number, false, table, &w.old, indexes)?;
     push_doc(alloc, marks, ts, number, true, table, &w.new, indexes)
 }

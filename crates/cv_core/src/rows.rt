@@ -22,7 +22,7 @@ use std::marker::Model;
 pub(crate) struct Rows {
     docs: Versions,
     count: u64,
-    tables: Vec<TableRows>,
+    tables: Vec<TableRows<FlatRows>>,
 }
 
 impl Model for Rows {
@@ -116,13 +116,17 @@ impl Rows {
     }
 }
 
-fn rows_at(tables: &[TableRows], table: u32, index: u32) -> Option<&FlatRows>
+fn rows_at(tables: &[TableRows<FlatRows>], table: u32, index: u32) -> Option<&FlatRows>
     ensures { option_map (λ r. r.now) result ≡ rows_of table index tables.now }
 {
     tables.get(table as usize)?.get(index)
 }
 
-fn reserve_each(tables: &mut Vec<TableRows>, each: usize, changes: &[Change]) -> Result<(), Memory>
+fn reserve_each(
+    tables: &mut Vec<TableRows<FlatRows>>,
+    each: usize,
+    changes: &[Change],
+) -> Result<(), Memory>
     ensures shape { shape tables.new.items ≡ shape tables.old.items }
     ensures rows { (table index : ℕ) → entries_at table index tables.new.items ≡ entries_at table index tables.old.items }
     ensures spare { (table index : ℕ) → spare_at table index tables.old.items ≤ spare_at table index tables.new.items }
@@ -136,7 +140,7 @@ fn reserve_each(tables: &mut Vec<TableRows>, each: usize, changes: &[Change]) ->
 
 // Room for so many entries in the rows of an index.
 fn reserve_one(
-    tables: &mut Vec<TableRows>,
+    tables: &mut Vec<TableRows<FlatRows>>,
     each: usize,
     table: u32,
     index: u32,
@@ -165,7 +169,7 @@ fn push_all(docs: &mut Versions, more: Vec<Doc>)
 }
 
 // Makes changes in order.
-fn insert_all(tables: &mut Vec<TableRows>, ts: u64, changes: Vec<Change>)
+fn insert_all(tables: &mut Vec<TableRows<FlatRows>>, ts: u64, changes: Vec<Change>)
     requires room { (table index : ℕ) → length (changes_at table index changes.items) ≤ spare_at table index tables.old.items }
     requires allowed { (table index : ℕ) → AreAllowed (entries_of ts (changes_at table index changes.items)) (entries_at table index tables.old.items) }
     ensures shape { shape tables.new.items ≡ shape tables.old.items }
@@ -178,7 +182,7 @@ fn insert_all(tables: &mut Vec<TableRows>, ts: u64, changes: Vec<Change>)
 }
 
 // Makes one change.
-fn insert_one(tables: &mut Vec<TableRows>, ts: u64, change: Change)
+fn insert_one(tables: &mut Vec<TableRows<FlatRows>>, ts: u64, change: Change)
     requires room { 0 < spare_at change.table change.index tables.old.items }
     requires later { AllEarlier change.key ts (entries_at change.table change.index tables.old.items) }
     ensures shape { shape tables.new.items ≡ shape tables.old.items }

@@ -3,7 +3,7 @@ ghost use Rattle.cv_values.specs.IdLaws.{IsId};
 ghost use Rattle.cv_keys.specs.Documents.{index_at};
 ghost use Rattle.cv_keys.specs.Intervals.{in_bytes};
 ghost use Rattle.fn_tree.specs.EntryViews.{entry_view, reply_view};
-ghost use Rattle.fn_tree.specs.History.{IsLegal, docs_at};
+ghost use Rattle.fn_tree.specs.History.{docs_at};
 ghost use Rattle.fn_tree.specs.SyntaxViews.{module_view};
 ghost use Rattle.cv_keys.specs.KeyOrder.{EndInRange};
 ghost use Rattle.cv_keys.specs.Places.{PlaceInterval};
@@ -12,10 +12,10 @@ ghost use Rattle.fn_tree.specs.Rows.{rows_at};
 ghost use Rattle.fn_tree.specs.Scan.{id_interval, found, in_direction};
 ghost use Rattle.cv_log.specs.Logs.{entry_at};
 ghost use Rattle.cv_store.specs.Kept.{kept};
-ghost use Rattle.cv_store.specs.Reads.{StoreRead, StandsFor, IsReadable, cut, read_from};
-ghost use Rattle.cv_store.specs.Stores.{IsRunOf, Begins, IsAnswer, query_run};
+ghost use Rattle.cv_store.specs.Reads.{StoreRead, StandsFor, IsReadable, cut};
+ghost use Rattle.cv_store.specs.Stores.{schema_at, read_at, IsRunOf, Begins, IsAnswer, query_run, LooksIn, cached, Keeps};
 ghost use Rattle.cv_store.specs.Tails.{tail_from};
-ghost use Rattle.cv_core.specs.Cores.{state_of, program_of, schema_in, standing, IsRoom, IsReady};
+ghost use Rattle.cv_core.specs.Cores.{state_of, program_of, schema_in, alone, StandsWell, IsSameButRoom, IsRoom, IsReady};
 ghost use Rattle.cv_core.specs.Ends.{Ends};
 ghost use Rattle.cv_core.specs.Versioned.{entries_at, shape, spare_at};
 ghost use Rattle.cv_store.specs.FirstTouch.{first_touch};
@@ -72,19 +72,29 @@ impl Core {
         })
     }
 
+    /// What holds of each core.
+    pub fn stands_well(&self)
+        ensures { StandsWell self.now }
+    {
+        // A look at a field brings the invariant.
+        let _log = &self.log;
+    }
+
     /// The number of entries of the log.
     pub fn len(&self) -> u64
         ensures len { result ≡ length self.now.log }
-        ensures legal { IsLegal (program_of self.now) self.now.log }
+        ensures well { StandsWell self.now }
     {
+        self.stands_well();
         self.log.len()
     }
 
     /// The entry at a timestamp, none exactly outside 1 to the length of the log.
     pub fn entry(&self, ts: u64) -> Option<&Entry>
         ensures entry { option_map (λ e. entry_view e.now) result ≡ entry_at ts self.now.log }
-        ensures legal { IsLegal (program_of self.now) self.now.log }
+        ensures well { StandsWell self.now }
     {
+        self.stands_well();
         self.log.entry(ts)
     }
 
@@ -92,9 +102,10 @@ impl Core {
     /// changes nothing, and looks the request up in constant time on average.
     pub fn begin(&mut self, alloc: Global, session: u128, request: u32) -> Result<Begun, Memory>
         ensures same { self.new ≡ self.old }
-        ensures legal { IsLegal (program_of self.new) self.new.log }
-        ensures ok { IfOk result (λ b. Begins (standing [] [] self.old) session request b) }
+        ensures well { StandsWell self.new }
+        ensures ok { IfOk result (λ b. Begins (alone self.old) session request b) }
     {
+        self.stands_well();
         match kept_reply(alloc, &self.log, session, request)? {
             None => Ok(Begun::Fresh { ts: self.log.len() }),
             Some((ts, reply)) => Ok(Begun::Known { ts, reply }),
@@ -104,11 +115,12 @@ impl Core {
     /// One read of the documents at a timestamp. It changes nothing.
     pub fn read(&mut self, alloc: Global, ts: u64, ask: &ReadReq) -> Result<Vec<Doc>, Memory>
         requires seen { ts ≤ length self.old.log }
-        requires readable { IsReadable (schema_in self.old) ask.now }
+        requires readable { IsReadable (schema_at (program_of self.old) self.old.log ts) ask.now }
         ensures same { self.new ≡ self.old }
-        ensures legal { IsLegal (program_of self.new) self.new.log }
-        ensures ok { (q : StoreRead) → StandsFor ask.now q → IfOk result (λ ds. ds.items ≡ read_from (schema_in self.old) (docs_at self.old.log ts) q) }
+        ensures well { StandsWell self.new }
+        ensures ok { (q : StoreRead) → StandsFor ask.now q → IfOk result (λ ds. ds.items ≡ read_at (alone self.old) ts q) }
     {
+        self.stands_well();
         match ask {
             ReadReq::Get { id } => self.get(alloc, ts, id),
             ReadReq::Scan {
@@ -123,20 +135,23 @@ impl Core {
     /// The marks of the entries after a timestamp, as many as one tail takes. It changes nothing.
     pub fn tail(&mut self, alloc: Global, from: u64) -> Result<Tail, Memory>
         ensures same { self.new ≡ self.old }
-        ensures legal { IsLegal (program_of self.new) self.new.log }
+        ensures well { StandsWell self.new }
         ensures ok { IfOk result (λ t. t ≡ tail_from (schema_in self.old) self.old.log from) }
     {
+        self.stands_well();
         tail_of(alloc, &self.log, from)
     }
 
     /// The kept answer of a query at a timestamp. No answers are kept yet.
-    pub fn look(&mut self, _alloc: Global, _query: &Query, ts: u64) -> Result<Look, Memory>
+    pub fn look(&mut self, _alloc: Global, query: &Query, ts: u64) -> Result<Look, Memory>
         requires { ts ≤ length self.old.log }
         ensures same { self.new ≡ self.old }
-        ensures legal { IsLegal (program_of self.new) self.new.log }
+        ensures well { StandsWell self.new }
         ensures ok { IfOk result (λ l. l ≡ Look.Miss) }
+        ensures cache { IfOk result (λ l. LooksIn self.old.cache self.new.cache query.now ts l) }
     {
-        // A look at a field brings what holds of each core: its log is legal.
+        self.stands_well();
+        // A look at a field brings that there is no cache.
         let _log = &self.log;
         Ok(Look::Miss)
     }
@@ -151,24 +166,38 @@ impl Core {
         reads: &ReadSet,
     ) -> Result<(), Memory>
         requires seen { ts ≤ length self.old.log }
-        requires is_run { IsAnswer (query_run (standing [] [] self.old) query.now ts) reply.now reads.now }
+        requires is_run { IsAnswer (query_run (alone self.old) query.now ts) reply.now reads.now }
         ensures same { self.new ≡ self.old }
-        ensures legal { IsLegal (program_of self.new) self.new.log }
+        ensures well { StandsWell self.new }
+        ensures ok { IfOk result (λ u. Keeps (alone self.old) (alone self.new) (cached query.now ts reply.now reads.now)) }
     {
-        // A look at a field brings what holds of each core: its log is legal.
+        self.stands_well();
+        // A look at a field brings that there is no cache.
         let _log = &self.log;
         Ok(())
     }
 
     /// Makes all room for the commit of a proposal and the marks of its entry; where its session's request
-    /// has an entry already, it copies that entry's reply. The log and the documents stay as they are, and
-    /// what was prepared before for other proposals stays ready.
+    /// has an entry already, it copies that entry's reply. What was prepared before for other proposals
+    /// stays ready.
     pub fn prepare(&mut self, alloc: Global, p: &Proposal) -> Result<Ready, Memory>
-        ensures program { self.new.tree ≡ self.old.tree }
+        ensures same { IsSameButRoom self.old self.new }
+        ensures well { StandsWell self.new }
+        ensures ok { IfOk result (λ r. IsReady self.new p.entry.now r) }
+        ensures others { (q : Proposal) (r : Ready) → IsReady self.old q r → IsReady self.new q r }
+    {
+        let ready = self.make_ready(alloc, p);
+        self.stands_well();
+        ready
+    }
+
+    // The same, but for what holds of each core.
+    fn make_ready(&mut self, alloc: Global, p: &Proposal) -> Result<Ready, Memory>
+        ensures tree { self.new.tree ≡ self.old.tree }
         ensures log { self.new.log ≡ self.old.log }
         ensures docs { self.new.rows.docs ≡ self.old.rows.docs }
         ensures rows { (table index : ℕ) → entries_at table index self.new.rows.tables ≡ entries_at table index self.old.rows.tables }
-        ensures legal { IsLegal (program_of self.new) self.new.log }
+        ensures cache { self.new.cache ≡ self.old.cache }
         ensures ok { IfOk result (λ r. IsReady self.new p.entry.now r) }
         ensures others { (q : Proposal) (r : Ready) → IsReady self.old q r → IsReady self.new q r }
     {
@@ -185,14 +214,24 @@ impl Core {
     /// touches what it read. It takes no memory, and what it was given is taken over without a copy. A
     /// search for a touch looks at the entries after the snapshot alone.
     pub fn commit(&mut self, p: Proposal, ready: Ready) -> Ended
-        requires run { IsRunOf (standing [] [] self.old) p }
+        requires run { IsRunOf (alone self.old) p }
         requires ready { IsReady self.old p ready }
         ensures program { program_of self.new ≡ program_of self.old }
-        ensures legal { IsLegal (program_of self.new) self.new.log }
+        ensures well { StandsWell self.new }
         ensures ok { Ends self.old self.new p result }
     {
-        // A look at a field brings what holds of each core: its log is legal.
-        let _log = &self.log;
+        let ended = self.finish(p, ready);
+        self.stands_well();
+        ended
+    }
+
+    // The same, but for what holds of each core.
+    fn finish(&mut self, p: Proposal, ready: Ready) -> Ended
+        requires run { IsRunOf (alone self.old) p }
+        requires ready { IsReady self.old p ready }
+        ensures program { program_of self.new ≡ program_of self.old }
+        ensures ok { Ends self.old self.new p result }
+    {
         match ready.into_prepared() {
             Prepared::Known { ts, reply } => Ended::Known { ts, reply },
             Prepared::Fresh(room) => self.end(p, room),
@@ -202,8 +241,7 @@ impl Core {
     // The document of an id at a timestamp.
     fn get(&self, alloc: Global, ts: u64, id: &DocId) -> Result<Vec<Doc>, Memory>
         requires { ts ≤ length self.now.log }
-        ensures ok { IfOk result (λ ds. ds.items ≡ found (doc_of id.now (docs_at self.now.log ts))) }
-        ensures legal { IsLegal (program_of self.now) self.now.log }
+        ensures { IfOk result (λ ds. ds.items ≡ found (doc_of id.now (docs_at self.now.log ts))) }
     {
         let rows = &self.rows;
         let i = id_interval(alloc, id)?;
@@ -221,21 +259,19 @@ impl Core {
         size: u64,
     ) -> Result<Vec<Doc>, Memory>
         requires seen { ts ≤ length self.now.log }
-        requires readable { IsSome (index_at (schema_in self.now) i.now.table i.now.index) }
-        ensures ok { (p : PlaceInterval) → i.now ≡ in_bytes p → EndInRange p.lo → EndInRange p.hi
-            → IfOk result (λ ds. ds.items ≡ cut rows size (in_direction desc (rows_at (schema_in self.now) p (docs_at self.now.log ts)))) }
-        ensures legal { IsLegal (program_of self.now) self.now.log }
+        requires readable { IsSome (index_at (schema_at (program_of self.now) self.now.log ts) i.now.table i.now.index) }
+        ensures { (p : PlaceInterval) → i.now ≡ in_bytes p → EndInRange p.lo → EndInRange p.hi
+            → IfOk result (λ ds. ds.items ≡ cut rows size (in_direction desc (rows_at (schema_at (program_of self.now) self.now.log ts) p (docs_at self.now.log ts)))) }
     {
         self.rows.scan(alloc, ts, i, desc, rows, size)
     }
 
     // The end of a proposal whose session's request has no entry.
     fn end(&mut self, p: Proposal, room: Room) -> Ended
-        requires run { IsRunOf (standing [] [] self.old) p }
+        requires run { IsRunOf (alone self.old) p }
         requires new { kept p.call.session p.call.request self.old.log ≡ None }
         requires room { IsRoom self.old p room }
         ensures program { program_of self.new ≡ program_of self.old }
-        ensures legal { IsLegal (program_of self.new) self.new.log }
         ensures ok { Ends self.old self.new p result }
     {
         match self.log.first_touch_since(&p.reads, p.snapshot) {
@@ -246,12 +282,11 @@ impl Core {
 
     // Appends the entry of a proposal that nothing touches.
     fn append(&mut self, p: Proposal, room: Room) -> Ended
-        requires run { IsRunOf (standing [] [] self.old) p }
+        requires run { IsRunOf (alone self.old) p }
         requires new { kept p.call.session p.call.request self.old.log ≡ None }
         requires untouched { first_touch (schema_in self.old) p.reads self.old.log p.snapshot ≡ None }
         requires room { IsRoom self.old p room }
         ensures program { program_of self.new ≡ program_of self.old }
-        ensures legal { IsLegal (program_of self.new) self.new.log }
         ensures ok { Ends self.old self.new p result }
     {
         let Room {

@@ -4,3 +4,4 @@ pub mod Cut
 pub mod Codes
 pub mod Numbered
 pub mod History
+pub mod IndexRows

@@ -20,11 +20,12 @@ pub struct FlatRows {
 impl Model for FlatRows {
     ghost use Rattle.std.specs.Prelude.{◌-◌, vec_len, vec_capacity};
     ghost use Rattle.cv_docs.specs.Entries.{IsInOrder};
-    ghost use Rattle.cv_flat.specs.Listed.{Listed, listed_code};
+    ghost use Rattle.cv_docs.specs.Codes.{index_rows_code};
+    ghost use Rattle.cv_docs.specs.IndexRows.{IndexRows};
 
-    ghost Value = { Listed };
+    ghost Value = { IndexRows };
 
-    ghost coded = { listed_code };
+    ghost coded = { index_rows_code };
 
     ghost view = { λ r. record { entries = r.entries.items; spare = vec_capacity r.entries - vec_len r.entries } };
 

@@ -1,5 +1,5 @@
 ghost use Rattle.std.specs.Prelude.{◌≡◌, IfOk, option_map};
-ghost use Rattle.cv_keys.specs.Documents.{index_at};
+ghost use Rattle.cv_keys.specs.Documents.{index_at, indexes_of};
 
 use cv_values::{Copied, Memory, Seq, Text};
 use std::alloc::Global;
@@ -41,8 +41,17 @@ impl Schema {
     pub fn index_at(&self, table: u32, index: u32) -> Option<&Index>
         ensures { option_map (λ i. i.now) result ≡ index_at self.now table index }
     {
-        let table = self.tables.as_slice().get(table as usize)?;
-        table.indexes.as_slice().get(index as usize)
+        self.indexes_of(table).get(index as usize)
+    }
+
+    /// The indexes of the table of this number, none where it isn't there.
+    pub fn indexes_of(&self, table: u32) -> &[Index]
+        ensures { result.now ≡ indexes_of self.now table }
+    {
+        match self.tables.as_slice().get(table as usize) {
+            Some(table) => table.indexes.as_slice(),
+            None => &[],
+        }
     }
 }
 

@@ -6,28 +6,17 @@ use Rattle.std.proofs.lemmas.Bool.{and_parts, eqb-true}
 use Rattle.fn_tree.specs.Course.{Reply}
 use Rattle.fn_tree.specs.EntryViews.{entry_view}
 use Rattle.fn_tree.specs.History.{Entry, History}
-use Rattle.cv_store.specs.Kept.{is_of, kept_after, kept}
+use Rattle.cv_store.specs.Kept.{is_of, kept}
+use Rattle.cv_store.proofs.KeptLaws.{kept_with_entry}
 use Rattle.cv_log.specs.Logs.{entries_in, timestamp_of}
 use Rattle.cv_log.specs.declared.touch.Marked.{Marked}
-
-kept_end : (session request ts n : ℕ) (h : History) (e : Entry) → n ≡ ts + length h + 1
-    → kept_after session request ts (h ++ e ∷ []) ≡ option_or (kept_after session request ts h) (cond (is_of session request e) (Some (n, e.reply)) None)
-kept_end session request ts n [] e p =
-    let same : ts + 1 ≡ n = omega (arith, p) in
-    ap (λ (k : ℕ). cond (is_of session request e) (Some (k, e.reply)) None) same
-kept_end session request ts n (f ∷ h) e p = go (is_of session request f) (kept_end session request (ts + 1) n h e (omega (arith, p)))
-  where
-    go : (b : Bool) → kept_after session request (ts + 1) (h ++ e ∷ []) ≡ option_or (kept_after session request (ts + 1) h) (cond (is_of session request e) (Some (n, e.reply)) None)
-        → cond b (Some (ts + 1, f.reply)) (kept_after session request (ts + 1) (h ++ e ∷ []))
-        ≡ option_or (cond b (Some (ts + 1, f.reply)) (kept_after session request (ts + 1) h)) (cond (is_of session request e) (Some (n, e.reply)) None)
-    go true ih = refl
-    go false ih = ih
 
 -- where the entry's own request isn't there before
 pub timestamp_end : (session request n : ℕ) (h : History) (e : Entry) → n ≡ length h + 1 → kept e.call.session e.call.request h ≡ None
     → timestamp_of session request (h ++ e ∷ []) ≡ cond (nat_eq e.call.session session && nat_eq e.call.request request) (Some n) (timestamp_of session request h)
 timestamp_end session request n h e p none =
-    ap (λ k. option_map (λ q. q.0) k) (kept_end session request 0 n h e (omega (arith, p)))
+    ap (λ k. option_map (λ q. q.0) k) (kept_with_entry session request h e)
+    ∙ ap (λ (k : ℕ). option_map (λ q. q.0) (option_or (kept session request h) (cond (is_of session request e) (Some (k, e.reply)) None))) (sym p)
     ∙ go (is_of session request e) refl
   where
     gone : (b : Bool) → is_of session request e ≡ b → b ≡ true → kept session request h ≡ None

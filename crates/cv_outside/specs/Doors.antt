@@ -4,7 +4,7 @@ use Rattle.cv_outside.specs.Causes.{Rose}
 use Rattle.cv_outside.specs.declared.link.LinkFail.{LinkFail}
 use Rattle.cv_outside.specs.declared.link.LinkFail.TheVariants.{Failed, Memory}
 
--- how many links were given, and how many given back; those that were given back, where they are told; and how often it failed
+-- how many links were given, and how many given back; those that were given back, where they are told; how often it failed
 pub record Doorway (L : Type 0) : Type 0 where
   pub given : ℕ
   pub back : ℕ

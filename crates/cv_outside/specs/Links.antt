@@ -12,7 +12,8 @@ pub record Coming : Type 0 where
   pub texts : List (List ℕ)
   pub closing : Bool
 
--- What is to come and the trace, where these are told; how often the link was quiet, closed and at fault; and whether a call of it may fail
+-- what is to come and the trace, where these are told; how often the link was quiet, closed and at fault; and
+-- whether a call of it may fail
 pub record Wire : Type 0 where
   pub coming : Option Coming
   pub trace : Option (List Said)

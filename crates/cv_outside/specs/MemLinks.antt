@@ -1,7 +1,7 @@
 -- A link in memory.
 use Rattle.std.specs.Prelude.{◌≡◌, ℕ, Bool, true, false, List, [], ◌∷◌, ◌++◌, Some, Result, Ok, Err}
 use Rattle.cv_outside.specs.Links.{Wire}
-use Rattle.cv_outside.specs.Plan.{Calls, next}
+use Rattle.cv_outside.specs.Plan.{Calls, next, no_calls}
 use Rattle.cv_outside.specs.Traces.{Said, taken, sent}
 use Rattle.cv_outside.specs.declared.link.Got.{Got}
 use Rattle.cv_outside.specs.declared.link.Got.TheVariants.{Text, Quiet, Closed}
@@ -16,6 +16,11 @@ pub record LinkState : Type 0 where
   pub quiets : ℕ
   pub closings : ℕ
   pub calls : Calls
+
+-- no text is to come, and no call was made yet
+abbrev pub empty_link : List ℕ → LinkState
+empty_link fails =
+    record { texts = []; closing = false; trace = []; quiets = 0; closings = 0; calls = no_calls fails }
 
 abbrev pub is_some_listed : List ℕ → Bool
 is_some_listed [] = false

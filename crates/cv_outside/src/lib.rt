@@ -1,9 +1,13 @@
-//! What the programs meet outside: a source of bytes and a sink of bytes.
+//! What the programs meet outside: sources and sinks of bytes, links to clients and the doors at which
+//! they come, clocks, and what takes turns.
 //!
-//! Each is a trait with a written meaning: the bytes that are left or held, where these are told,
-//! and a count of faults that never falls. A call answers [`Failed`] only where that count rose in
-//! the call, so no code that is generic over the trait can blame the outside for a fault that did
-//! not come. `MemSource` and `MemSink` stand over memory and fail at chosen calls; `StdSource` and
+//! Each is a trait with a written meaning: the bytes that are left or held, the texts to come and
+//! those that passed, where these are told, and counts that never fall, one of them of faults. A call
+//! answers [`Failed`] or [`LinkFail::Failed`] only where the count of faults rose in the call, so no
+//! code that is generic over the trait can blame the outside for a fault that did not come. The same
+//! holds of a link that is quiet or closed. A count of 64 bits stands at its last value.
+//!
+//! The forms whose names begin with `Mem` stand over memory and fail at chosen calls. `StdSource` and
 //! `StdSink` stand over std's readers and writers, and tell of their bytes what these tell.
 #![tactic(auto)]
 

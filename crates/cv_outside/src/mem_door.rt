@@ -1,9 +1,8 @@
 //! A door in memory, whose calls can be made to fail.
-ghost use Rattle.std.specs.Prelude.{◌≡◌, ◌↔◌, ◌⊎◌, ◌<◌, [], ◌∷◌, ◌++◌, Contains, Err, IfErr, IfOk};
-ghost use Rattle.std.specs.List.{AllByRecursion};
+ghost use Rattle.std.specs.Prelude.{◌≡◌, ◌↔◌, ◌<◌, [], ◌∷◌, ◌++◌, Err, IfErr, IfOk};
 ghost use Rattle.cv_outside.specs.Doors.{GivesNone, after_next};
 ghost use Rattle.cv_outside.specs.Links.{IsUnused};
-ghost use Rattle.cv_outside.specs.MemDoors.{AnswersNext, door_way};
+ghost use Rattle.cv_outside.specs.MemDoors.{AllUnused, AnswersNext, IsToFail, door_way, opened};
 ghost use Rattle.cv_outside.specs.MemLinks.{link_wire};
 ghost use Rattle.cv_outside.specs.declared.link.LinkFail.TheVariants as fail;
 
@@ -24,24 +23,21 @@ pub struct MemDoor {
 }
 
 impl Model for MemDoor {
-    ghost use Rattle.std.specs.Prelude.{◌+◌, ◌^◌, ◌<◌, ◌≤◌, length, vec_capacity};
-    ghost use Rattle.std.specs.List.{AllByRecursion};
-    ghost use Rattle.cv_outside.specs.Links.{IsUnused};
-    ghost use Rattle.cv_outside.specs.MemDoors.{DoorState};
-    ghost use Rattle.cv_outside.specs.MemLinks.{link_wire};
+    ghost use Rattle.std.specs.Prelude.{length, vec_capacity};
+    ghost use Rattle.cv_outside.specs.MemDoors.{AllUnused, DoorState, HasRoom};
 
     ghost Value = { DoorState };
 
     ghost view = { λ d. record { links = d.links.items; given = d.given; back = d.back.items; calls = d.plan } };
 
-    ghost invariant = { λ d. AllByRecursion (λ l. IsUnused (link_wire l)) d.links.items × length d.back.items ≤ d.given × d.given ≤ vec_capacity d.back × d.given + length d.links.items < 2 ^ 64 };
+    ghost invariant = { λ d. AllUnused d.links.items × HasRoom d.given (length d.links.items) (length d.back.items) (vec_capacity d.back) };
 }
 
 impl MemDoor {
     /// It gives these links in turn. The calls of `next` with these numbers, counted from 0, are to fail.
     pub fn new(alloc: Global, links: Vec<MemLink>, fails: Vec<u64>) -> MemDoor
-        requires { AllByRecursion (λ l. IsUnused (link_wire l)) links.items }
-        ensures { result ≡ record { links = links.items; given = 0; back = []; calls = record { fails = fails.items; made = 0; failed = 0 } } }
+        requires { AllUnused links.items }
+        ensures { result ≡ opened links.items fails.items }
     {
         MemDoor {
             links: VecDeque::from(links),
@@ -68,14 +64,13 @@ impl Door for MemDoor {
 
     /// Fails exactly at the calls listed, and where no link is left. It makes the room in which the link
     /// is given back.
-    fn next(&mut self, alloc: Global) -> Result<MemLink, LinkFail>
+    fn next(&mut self, _alloc: Global) -> Result<MemLink, LinkFail>
         ensures given { IfOk result (λ _. door_way self.new ≡ after_next (door_way self.old)) }
         ensures unused { IfOk result (λ link. IsUnused (link_wire link)) }
         ensures err { IfErr result (λ why. GivesNone (door_way self.old) (door_way self.new) why) }
-        ensures listed { (result ≡ Err fail.Failed) ↔ (Contains self.old.calls.fails self.old.calls.made ⊎ (self.old.links ≡ [])) }
+        ensures listed { (result ≡ Err fail.Failed) ↔ IsToFail self.old }
         ensures answer { AnswersNext self.old self.new result }
     {
-        let _ = alloc;
         self.plan.call()?;
         if self.links.is_empty() {
             self.plan.fault();

@@ -1,7 +1,7 @@
 //! A link in memory, whose calls can be made to fail.
-ghost use Rattle.std.specs.Prelude.{◌≡◌, ◌↔◌, [], ◌∷◌, ◌++◌, false, true, Contains, Err, IfErr, IfOk, MatchOption, OnErr, OnOk};
+ghost use Rattle.std.specs.Prelude.{◌≡◌, ◌↔◌, [], ◌∷◌, ◌++◌, true, Contains, Err, IfErr, IfOk, MatchOption, OnErr, OnOk};
 ghost use Rattle.cv_outside.specs.Links.{Fails, IsLater, Receives, Sends};
-ghost use Rattle.cv_outside.specs.MemLinks.{AnswersRecv, AnswersSend, TakesText, link_wire};
+ghost use Rattle.cv_outside.specs.MemLinks.{AnswersRecv, AnswersSend, TakesText, empty_link, link_wire};
 ghost use Rattle.cv_outside.specs.Traces.{sent_texts};
 ghost use Rattle.cv_outside.specs.declared.link.LinkFail.TheVariants as fail;
 
@@ -41,7 +41,7 @@ impl Model for MemLink {
 impl MemLink {
     /// No text is to come. The calls of `recv` and `send` with these numbers, counted from 0, are to fail.
     pub fn new(alloc: Global, fails: Vec<u64>) -> MemLink
-        ensures { result ≡ record { texts = []; closing = false; trace = []; quiets = 0; closings = 0; calls = record { fails = fails.items; made = 0; failed = 0 } } }
+        ensures { result ≡ empty_link fails.items }
     {
         MemLink {
             coming: VecDeque::new(alloc),
@@ -96,7 +96,7 @@ impl Link for MemLink {
     ghost wire = { link_wire };
 
     /// Fails exactly at the calls listed, and takes no memory.
-    fn recv(&mut self, alloc: Global) -> Result<Got, LinkFail>
+    fn recv(&mut self, _alloc: Global) -> Result<Got, LinkFail>
         ensures later { IsLater (link_wire self.old) (link_wire self.new) }
         ensures ok { IfOk result (λ got. Receives (link_wire self.old) (link_wire self.new) got) }
         ensures err { IfErr result (λ why. Fails (link_wire self.old) (link_wire self.new) why) }
@@ -105,7 +105,6 @@ impl Link for MemLink {
         ensures answer { AnswersRecv self.old self.new result }
     {
         self.plan.call()?;
-        let _ = alloc;
         if let Some(text) = self.take() {
             return Ok(Got::Text(text));
         }

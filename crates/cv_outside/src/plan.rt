@@ -1,6 +1,6 @@
 //! Which calls of a value in memory are to fail.
 ghost use Rattle.std.specs.Prelude.{◌≡◌, ◌≤◌, ◌↔◌, Contains, IsErr, OnErr, OnOk};
-ghost use Rattle.cv_outside.specs.Plan.{next};
+ghost use Rattle.cv_outside.specs.Plan.{next, no_calls};
 ghost use Rattle.cv_outside.specs.Causes.{HasCause};
 
 use crate::Failed;
@@ -24,7 +24,7 @@ impl Model for Plan {
 
 impl Plan {
     pub(crate) fn new(fails: Vec<u64>) -> Self
-        ensures { result ≡ record { fails = fails.items; made = 0; failed = 0 } }
+        ensures { result ≡ no_calls fails.items }
     {
         Plan {
             fails,

@@ -16,6 +16,9 @@ impl Model for Trace {
     ghost also_owns = { λ _. ftrue };
 }
 
+// It owns nothing.
+unsafe impl Send for Trace {}
+
 impl Trace {
     pub(crate) fn new() -> Trace
         ensures { result.said ≡ [] }

@@ -1,3 +1,4 @@
+pub mod Crossing
 pub mod EndLemmas
 pub mod PauseLemmas
 pub mod QueryLemmas

@@ -1,18 +1,17 @@
 -- What a call may take of the documents of its snapshot.
-use Rattle.std.proofs.Common.{◌≡◌, ℕ, zero, suc, ◌+◌, Bool, true, false, ◌||◌, cond, List, [], ◌∷◌, take, Some, None, refl, sym, ap, subst, ◌∙◌}
-use Rattle.std.specs.Prelude.{◌≢◌, IfSome, is_some}
-use Rattle.std.proofs.lemmas.Bool.{and_from, eq-eqb}
+use Rattle.std.proofs.Common.{◌≡◌, ℕ, zero, suc, Bool, true, false, ◌||◌, cond, List, [], ◌∷◌, take, sym, ap, subst}
+use Rattle.std.specs.Prelude.{IfSome, is_some}
 use Rattle.std.proofs.lemmas.List.{take-append-le}
 use Rattle.cv_keys.specs.declared.write.Write.{Write}
 use Rattle.cv_run.specs.Snapshots.{IdsAreDistinct, NewCallsAreFresh, SnapshotsStay}
-use Rattle.cv_store.specs.Kept.{is_of, kept_after}
+use Rattle.cv_store.proofs.KeptLaws.{not_kept_is_new}
 use Rattle.cv_tx.proofs.Fronts.{distinct_with}
 use Rattle.cv_tx.specs.Pending.{HasDistinctIds}
-use Rattle.fn_tree.proofs.DocumentLemmas.{doc_of_id, some_none}
+use Rattle.fn_tree.proofs.DocumentLemmas.{doc_of_id}
 use Rattle.fn_tree.proofs.IdsOfHistories.{fresh_call, ids_have_pairs}
 use Rattle.fn_tree.specs.Course.{Reply, gives, failed}
 use Rattle.fn_tree.specs.Documents.{Docs, doc_of, with_doc, applied}
-use Rattle.fn_tree.specs.History.{History, AreRuns, HasNoPair, pair_of, start_of, docs_after, docs_at}
+use Rattle.fn_tree.specs.History.{History, Pair, AreRuns, HasNoPair, start_of, docs_after, docs_at}
 use Rattle.fn_tree.specs.Run.{with_puts, puts_to, writes_to, writes_of, run}
 use Rattle.fn_tree.specs.SyntaxTree.{ModuleTree}
 use Rattle.fn_tree.specs.declared.stop.Put.{Put}
@@ -56,19 +55,14 @@ ids_are_distinct m h legal ts = distinct_after m h [] tt legal.runs ts
 
 -- ---- fresh ids
 
-no_pair : (session request n : ℕ) (h : History) (ts : ℕ) → kept_after session request n h ≡ None → HasNoPair (session, request) (take ts h)
-no_pair session request n h zero e = tt
-no_pair session request n [] (suc ts) e = tt
-no_pair session request n (f ∷ h) (suc ts) e = go (is_of session request f) refl e (no_pair session request (n + 1) h ts)
-  where
-    go : (b : Bool) → is_of session request f ≡ b → cond b (Some (n + 1, f.reply)) (kept_after session request (n + 1) h) ≡ None
-        → (kept_after session request (n + 1) h ≡ None → HasNoPair (session, request) (take ts h))
-        → ((session, request) ≢ pair_of f) × HasNoPair (session, request) (take ts h)
-    go true is p rest = absurd (some_none (n + 1, f.reply) p)
-    go false is p rest = (λ same. cc (sym is ∙ and_from _ _ (eq-eqb f.call.session session (ap (λ (x : ℕ × ℕ). x.0) (sym same))) (eq-eqb f.call.request request (ap (λ (x : ℕ × ℕ). x.1) (sym same)))), rest p)
+no_pair : (pair : Pair) (h : History) (ts : ℕ) → HasNoPair pair h → HasNoPair pair (take ts h)
+no_pair pair h zero none = tt
+no_pair pair [] (suc ts) none = tt
+no_pair pair (f ∷ h) (suc ts) none = (none.0, no_pair pair h ts none.1)
 
 pub new_calls_are_fresh : NewCallsAreFresh
-new_calls_are_fresh m h call legal none ts = fresh_call (take ts h) call (docs_at h ts) (ids_have_pairs m h legal ts) (no_pair call.session call.request 0 h ts none)
+new_calls_are_fresh m h call legal none ts =
+    fresh_call (take ts h) call (docs_at h ts) (ids_have_pairs m h legal ts) (no_pair (call.session, call.request) h ts (not_kept_is_new call.session call.request h none))
 
 -- ---- later entries
 

@@ -7,7 +7,7 @@ use Rattle.cv_run.proofs.SnapshotLaws.{ids_are_distinct}
 use Rattle.cv_run.specs.Paused.{IsPaused}
 use Rattle.cv_run.specs.Pauses.{Runs, Pauses}
 use Rattle.cv_run.specs.declared.pause.Pause.{Pause}
-use Rattle.cv_store.specs.Jobs.{one_more}
+use Rattle.cv_store.specs.Turns.{one_more}
 use Rattle.cv_tx.specs.Pending.{Under}
 use Rattle.fn_code.specs.Coding.{code_of}
 use Rattle.fn_code.specs.declared.code.Code.{Code}

@@ -1,5 +1,5 @@
 -- What the pauses of a run give the steps of its job.
-use Rattle.std.proofs.Common.{◌≡◌, ◌∙◌, ℕ, ◌≤◌, true, false, Option, Some, None, length, refl, sym, ap, subst, lt-ltb, le-ltb, le_of_eq, map}
+use Rattle.std.proofs.Common.{◌≡◌, ◌∙◌, ℕ, ◌≤◌, true, false, inl, inr, Option, Some, None, length, refl, sym, ap, subst, lt-ltb, le-ltb, le_of_eq, map}
 use Rattle.std.proofs.Math.Logic.{∥∥₁_elim, ∥∥₁_map}
 use Rattle.std.specs.Prelude.{IsSome, is_some, nat_lt, ◌+◌, MatchBool}
 use Rattle.std.specs.Coded.{Coded-set, coded_bool, coded_ℕ, coded_list, le_prop}
@@ -12,15 +12,16 @@ use Rattle.cv_run.proofs.PauseLemmas.{is_indexed, is_readable}
 use Rattle.cv_run.proofs.EndLemmas.{ends_prop}
 use Rattle.cv_run.proofs.RestLemmas.{reads_fewer, there_rest, end_reply, end_reads, end_ends, end_writes, end_count}
 use Rattle.cv_run.proofs.StoreLemmas.{longer, docs_stay}
-use Rattle.cv_run.specs.Codes.{reply_code}
 use Rattle.cv_run.specs.Paused.{IsPaused}
 use Rattle.cv_run.specs.Pauses.{AtRead, Pauses}
 use Rattle.cv_run.specs.declared.pause.Pause.{Pause}
 use Rattle.cv_run.specs.declared.pause.Pause.TheVariants.{Read, End}
+use Rattle.cv_store.specs.Codes.{reply_code}
 use Rattle.cv_store.specs.Reads.{EndsInRange, StandsFor, IsReadable}
 use Rattle.cv_store.specs.Jobs as jobs
-use Rattle.cv_store.specs.Jobs.{one_more, reads_of, ended_as, StepsBegin, StepsRead, StepsCommit, Steps}
+use Rattle.cv_store.specs.Jobs.{reads_of, ended_as, StepsRead, StepsCommit, Steps, AtMostDue}
 use Rattle.cv_store.specs.Stores.{Standing, GoesOn, Reads, IsRunOf, Commits}
+use Rattle.cv_store.specs.Turns.{after_read, after_commit, AtMostOneTurn}
 use Rattle.cv_store.specs.declared.job.JobWent.{JobWent}
 use Rattle.cv_store.specs.declared.job.JobWent.TheVariants.{Moved}
 use Rattle.cv_store.specs.declared.proposal.Ended.{Ended}
@@ -165,15 +166,16 @@ pub under_same : (u : jobs.Under) (program : ModuleTree) (call : Call) (reads : 
     → u ≡ record u { program = program; call = call; reads = reads; seen = seen }
 under_same u program call reads seen e f r s = λ i. record u { program = e i; call = f i; reads = r i; seen = s i }
 
-pub step_reads : (s t : Standing) (call : Call) (u after : jobs.Under) (runs : ℕ) → nat_lt u.reads (reads_of s u) ≡ true → Reads s t
+pub step_reads : (s t : Standing) (call : Call) (u after : jobs.Under) (runs : ℕ) → nat_lt u.reads (reads_of s u) ≡ true → Reads s t → t.turns ≡ after_read s.turns
     → after ≡ record u { reads = u.reads + 1; seen = t.seen } → Steps s t call (Some u) (Some after) runs runs Moved
-step_reads s t call u after runs fewer store is =
-    let step : StepsRead s t u (Some after) runs runs Moved = record { store = store; under = ap Some is; counted = refl; told = refl } in
+step_reads s t call u after runs fewer store turns is =
+    let step : StepsRead s t u (Some after) runs runs Moved = record { store = store; turns = turns; under = ap Some is; counted = refl; told = refl } in
     subst (λ b. MatchBool b (StepsRead s t u (Some after) runs runs Moved) (StepsCommit s t u (Some after) runs runs Moved)) (sym fewer) step
 
 pub step_commits : (s t : Standing) (call : Call) (u : jobs.Under) (runs : ℕ) (p : Proposal) (went : JobWent) → nat_lt u.reads (reads_of s u) ≡ false → IsRunOf s p
-    → p.call ≡ u.call → p.snapshot ≡ u.snapshot → ((ended : Ended) × Commits s t p ended × (went ≡ ended_as p ended)) → Steps s t call (Some u) None runs runs went
-step_commits s t call u runs p went all is_run is_call is_snapshot (ended, store, told) =
+    → p.call ≡ u.call → p.snapshot ≡ u.snapshot → ((ended : Ended) × Commits s t p ended × (went ≡ ended_as p ended)) → t.turns ≡ after_commit s.turns
+    → Steps s t call (Some u) None runs runs went
+step_commits s t call u runs p went all is_run is_call is_snapshot (ended, store, told) turns =
     let step : StepsCommit s t u None runs runs went = record {
       proposal = p;
       ended = ended;
@@ -181,8 +183,20 @@ step_commits s t call u runs p went all is_run is_call is_snapshot (ended, store
       call = is_call;
       snapshot = is_snapshot;
       store = store;
+      turns = turns;
       under = refl;
       counted = refl;
       told = told;
     } in
     subst (λ b. MatchBool b (StepsRead s t u None runs runs went) (StepsCommit s t u None runs runs went)) (sym all) step
+
+-- ---- steps for which there was no memory
+
+-- of two turns, the one that was due
+pub due_read : (s t : Standing) (u : jobs.Under) → nat_lt u.reads (reads_of s u) ≡ true → AtMostOneTurn after_read s.turns t.turns → AtMostDue s t (Some u)
+due_read s t u fewer (inl e) = inl (e ∙ sym (rw (fewer, jobs.after_due)))
+due_read s t u fewer (inr e) = inr e
+
+pub due_commit : (s t : Standing) (u : jobs.Under) → nat_lt u.reads (reads_of s u) ≡ false → AtMostOneTurn after_commit s.turns t.turns → AtMostDue s t (Some u)
+due_commit s t u all (inl e) = inl (e ∙ sym (rw (all, jobs.after_due)))
+due_commit s t u all (inr e) = inr e

@@ -1,7 +1,8 @@
 //! The answer of a query: the kept one, or a run of its own, which is then kept.
 ghost use Rattle.std.specs.Prelude.{◌≡◌, ◌≤◌, [], length, IfOk, OnOk, OnErr};
-ghost use Rattle.cv_store.specs.Jobs.{one_more, AtMostOne, AnswersIn};
+ghost use Rattle.cv_store.specs.Jobs.{AtMostOne, AnswersIn};
 ghost use Rattle.cv_store.specs.Stores.{Extends, Reads, IsAnswer, query_run};
+ghost use Rattle.cv_store.specs.Turns.{one_more, OnlyAnswers};
 ghost use Rattle.fn_tree.specs.SyntaxViews.{module_view};
 
 use crate::laws::snapshots_hold;
@@ -27,13 +28,14 @@ fn run_query<S: Store>(
 ) -> Result<(Reply, ReadSet), Memory>
     requires program { module_view program.now.checked.tree ≡ (S.stands store.old).program }
     requires seen { ts ≤ length (S.stands store.old).seen }
-    requires stands { Reads (S.stands store.old) (S.stands store.old) }
     ensures store { Reads (S.stands store.old) (S.stands store.new) }
+    ensures turns { OnlyAnswers (S.stands store.old).turns (S.stands store.new).turns }
     ensures ok { IfOk result (λ r. IsAnswer (query_run (S.stands store.old) query.now ts) r.0 r.1) }
     ensures runs { OnOk result (runs.new.count ≡ one_more runs.old.count) }
     ensures err { OnErr result (AtMostOne runs.old.count runs.new.count) }
 {
     snapshots_hold();
+    store.stands_well();
     let start = Start {
         udf: &query.udf,
         args: &query.args,
@@ -72,6 +74,7 @@ pub fn answer<S: Store>(
     requires program { module_view program.now.checked.tree ≡ (S.stands store.old).program }
     requires seen { ts ≤ length (S.stands store.old).seen }
     ensures store { Extends (S.stands store.old) (S.stands store.new) [] }
+    ensures turns { OnlyAnswers (S.stands store.old).turns (S.stands store.new).turns }
     ensures ok { IfOk result (λ r. IsAnswer (query_run (S.stands store.old) query.now ts) r.0 r.1) }
     ensures runs { IfOk result (λ r. AnswersIn (S.stands store.old) (S.stands store.new) (S.stands store.old).cache query.now ts runs.old.count runs.new.count r.0 r.1) }
     ensures cache { OnErr result ((S.stands store.new).cache ≡ (S.stands store.old).cache) }

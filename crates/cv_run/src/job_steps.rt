@@ -1,8 +1,9 @@
 //! A job over any store: it steps by one call of the store, and answers queries.
 ghost use Rattle.std.specs.Prelude.{◌≡◌, ℕ, None, Some, IfOk, OnErr};
 ghost use Rattle.cv_run.specs.Unders.{under_attempt, under_job, program_of};
-ghost use Rattle.cv_store.specs.Jobs.{StepsBegin, Steps, AtMostOne};
+ghost use Rattle.cv_store.specs.Jobs.{StepsBegin, Steps, AtMostDue, AtMostOne};
 ghost use Rattle.cv_store.specs.Stores.{GoesOn, Reads};
+ghost use Rattle.cv_store.specs.Turns.{after_begin, AtMostOneTurn};
 ghost use Rattle.fn_tree.specs.SyntaxViews.{module_view};
 
 use crate::answer::answer;
@@ -29,6 +30,7 @@ impl RunJob {
         requires begins { self.old.attempt ≡ None }
         ensures ok { IfOk result (λ went. StepsBegin (S.stands store.old) (S.stands store.new) call.entry.now (under_job self.new) runs.old.count runs.new.count went) }
         ensures store { Reads (S.stands store.old) (S.stands store.new) }
+        ensures turns { OnErr result (AtMostOneTurn after_begin (S.stands store.old).turns (S.stands store.new).turns) }
         ensures begins { OnErr result (self.new.attempt ≡ None) }
         ensures runs { OnErr result (AtMostOne runs.old.count runs.new.count) }
     {
@@ -46,10 +48,11 @@ impl RunJob {
     ) -> Result<JobWent, Memory>
         requires program { module_view program.now.checked.tree ≡ (S.stands store.old).program }
         requires same { program_of attempt ≡ (S.stands store.old).program }
-        requires over { GoesOn attempt.basis.history (S.stands store.old).seen }
+        requires over { GoesOn attempt.seen.history (S.stands store.old).seen }
         requires begins { self.old.attempt ≡ None }
         ensures ok { (call : Call) (runs : ℕ) → IfOk result (λ went. Steps (S.stands store.old) (S.stands store.new) call (Some (under_attempt attempt)) (under_job self.new) runs runs went) }
         ensures store { OnErr result (Reads (S.stands store.old) (S.stands store.new)) }
+        ensures turns { OnErr result (AtMostDue (S.stands store.old) (S.stands store.new) (Some (under_attempt attempt))) }
         ensures begins { OnErr result (self.new.attempt ≡ None) }
     {
         let (attempt, went) = go_on(alloc, program, store, attempt)?;
@@ -62,11 +65,10 @@ impl RunJob {
 impl Job for RunJob {
     ghost use Rattle.cv_run.specs.Unders.{under_job};
     ghost use Rattle.fn_load.specs.declared.program.Program.{Program};
-    ghost use Rattle.fn_tree.specs.SyntaxViews.{module_view};
 
     type Prog = Program;
 
-    ghost program = { λ (p : Program). module_view p.checked.tree };
+    ghost tree = { λ (p : Program). p.checked.tree };
 
     ghost under = { under_job };
 

@@ -1,6 +1,8 @@
 //! Laws of runs over snapshots, each a function with nothing to do.
 ghost use Rattle.cv_run.specs.Snapshots.{IdsAreDistinct, NewCallsAreFresh, SnapshotsStay};
 
+use crate::run_job::RunJob;
+
 /// The documents of a timestamp of a legal history have distinct ids, none of them an id of a call that has
 /// no entry, and they stay the same when the history goes on.
 pub fn snapshots_hold()
@@ -8,3 +10,10 @@ pub fn snapshots_hold()
     ensures fresh { NewCallsAreFresh }
     ensures stay { SnapshotsStay }
 {}
+
+fn crosses<T: Send>(_value: &T) {}
+
+/// Jobs may cross threads.
+pub fn jobs_cross(job: &RunJob) {
+    crosses(job);
+}

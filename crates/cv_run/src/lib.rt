@@ -4,7 +4,6 @@
 
 mod answer;
 mod attempt;
-mod basis;
 mod job_steps;
 mod laws;
 mod pause;
@@ -13,5 +12,5 @@ mod run_on;
 mod starts;
 mod steps;
 
-pub use laws::snapshots_hold;
+pub use laws::{jobs_cross, snapshots_hold};
 pub use run_job::RunJob;

@@ -1,24 +1,11 @@
 //! A run between two steps: from its start, or from the rows of a read, to the next read or the end.
-ghost use Rattle.std.specs.Prelude.{◌≡◌, ◌+◌, ◌^◌, ◌<◌, ◌≤◌, [], List, length, IfOk, OnOk};
-ghost use Rattle.cv_values.specs.declared.doc.Doc.{Doc as PlainDoc};
-ghost use Rattle.cv_run.specs.Pauses.{Runs, AtRead, Pauses};
-ghost use Rattle.cv_run.specs.Rest.{IsRest};
-ghost use Rattle.cv_store.specs.Reads.{StandsFor, IsReadable, read_from};
-ghost use Rattle.cv_store.specs.Stores.{schema_in, Reads};
+ghost use Rattle.std.specs.Prelude.{◌≡◌, ◌+◌, ◌^◌, ◌<◌, ◌≤◌, length, OnOk};
+ghost use Rattle.cv_run.specs.RunParts.{GoesBehindPut, PausesAtRead, PausesAtEnd, GoesToPause, GoesOnWithRows, GoesOnFromRead};
+ghost use Rattle.cv_store.specs.Reads.{IsReadable};
+ghost use Rattle.cv_store.specs.Stores.{schema_at, Reads};
+ghost use Rattle.cv_store.specs.Turns.{OneTurn, after_read};
 ghost use Rattle.cv_tx.specs.Asks.{IsIndexed};
-ghost use Rattle.cv_tx.specs.Pending.{HasDistinctIds, Under};
-ghost use Rattle.cv_tx.specs.Plans.{plan_of};
-ghost use Rattle.fn_code.specs.declared.code.Code.{Code as PlainCode};
-ghost use Rattle.fn_tree.specs.Course.{Course, Ask as Asked, done, put};
-ghost use Rattle.fn_tree.specs.Documents.{Docs};
-ghost use Rattle.fn_tree.specs.Functions.{Start as PlainStart};
-ghost use Rattle.fn_tree.specs.History.{docs_at};
-ghost use Rattle.fn_tree.specs.Schemas.{schema_of};
-ghost use Rattle.fn_tree.specs.SyntaxTree.{ModuleTree};
 ghost use Rattle.fn_tree.specs.SyntaxViews.{module_view};
-ghost use Rattle.fn_vm.specs.Machines.{WaitsForPut};
-ghost use Rattle.fn_vm.specs.Moves.{Stands};
-ghost use Rattle.fn_vm.specs.Views.{outcome_view};
 
 use crate::pause::Pause;
 use cv_keys::Schema;
@@ -41,7 +28,7 @@ fn id_fits(_id: DocId)
 
 // Lays a write into the transaction, behind which the machine goes on.
 fn place(machine: &mut Machine, tx: &mut Tx, p: Put) -> Result<(), Memory>
-    ensures ok { (code : PlainCode) (m : ModuleTree) (s : PlainStart) (ds : Docs) (next : Course) → WaitsForPut code machine.old next → IsRest m s ds tx.old.pending tx.old.reads (put p next) → OnOk result (Runs code m s ds machine.new tx.new) }
+    ensures ok { GoesBehindPut machine.old machine.new tx.old tx.new p result }
     ensures snapshot { tx.new.snapshot ≡ tx.old.snapshot }
     ensures reads { tx.new.reads ≡ tx.old.reads }
 {
@@ -53,7 +40,7 @@ fn place(machine: &mut Machine, tx: &mut Tx, p: Put) -> Result<(), Memory>
 
 // The pause of a run that asks for a read.
 fn at_read(alloc: Global, tx: &Tx, ask: Ask) -> Result<Pause, Memory>
-    ensures { (code : PlainCode) (m : ModuleTree) (s : PlainStart) (ds : Docs) (machine : Machine) (q : Asked) → Stands ask q → AtRead code m s ds machine tx.now q → IfOk result (λ p. Pauses code m s ds machine tx.now p) }
+    ensures { PausesAtRead ask tx.now result }
 {
     let plan = tx.plan(alloc, &ask)?;
     Ok(Pause::Read { ask, plan })
@@ -61,7 +48,7 @@ fn at_read(alloc: Global, tx: &Tx, ask: Ask) -> Result<Pause, Memory>
 
 // The pause of a run that has ended.
 fn at_end(alloc: Global, outcome: Outcome) -> Result<Pause, Memory>
-    ensures { (code : PlainCode) (m : ModuleTree) (s : PlainStart) (ds : Docs) (machine : Machine) (tx : Under) → IsRest m s ds tx.pending tx.reads (done (outcome_view outcome)) → IfOk result (λ p. Pauses code m s ds machine tx p) }
+    ensures { PausesAtEnd outcome result }
 {
     let Outcome { reply, cost: _ } = outcome;
     let told = reply.copy(alloc)?;
@@ -75,7 +62,7 @@ pub fn run_on(
     machine: &mut Machine,
     tx: &mut Tx,
 ) -> Result<Pause, Memory>
-    ensures ok { (m : ModuleTree) (s : PlainStart) (ds : Docs) → Runs code.now m s ds machine.old tx.old → IfOk result (λ p. Pauses code.now m s ds machine.new tx.new p) }
+    ensures ok { GoesToPause code.now machine.old machine.new tx.old tx.new result }
     ensures snapshot { tx.new.snapshot ≡ tx.old.snapshot }
     ensures reads { tx.new.reads ≡ tx.old.reads }
 {
@@ -100,7 +87,7 @@ fn answer_rows(
     rows: Vec<Doc>,
 ) -> Result<(), Memory>
     requires { IsIndexed schema.now ask.now }
-    ensures ok { (code : PlainCode) (m : ModuleTree) (s : PlainStart) (ds : Docs) (q : Asked) → schema.now ≡ schema_of m.tables → HasDistinctIds ds → Stands ask.now q → AtRead code m s ds machine.old tx.old q → rows.items ≡ read_from schema.now ds (plan_of tx.old.pending q) → OnOk result (Runs code m s ds machine.new tx.new) }
+    ensures ok { GoesOnWithRows schema.now ask.now rows.items machine.old machine.new tx.old tx.new result }
     ensures snapshot { tx.new.snapshot ≡ tx.old.snapshot }
     ensures reads { OnOk result (length tx.new.reads ≡ length tx.old.reads + 1) }
 {
@@ -122,10 +109,11 @@ pub fn read_on<S: Store>(
 ) -> Result<Pause, Memory>
     requires program { module_view program.now.checked.tree ≡ (S.stands store.old).program }
     requires seen { snapshot ≤ length (S.stands store.old).seen }
-    requires readable { IsReadable (schema_in (S.stands store.old)) plan.now }
-    requires indexed { IsIndexed (schema_in (S.stands store.old)) ask.now }
+    requires readable { IsReadable (schema_at (S.stands store.old).program (S.stands store.old).seen snapshot) plan.now }
+    requires indexed { IsIndexed (schema_at (S.stands store.old).program (S.stands store.old).seen snapshot) ask.now }
     ensures store { Reads (S.stands store.old) (S.stands store.new) }
-    ensures ok { (s : PlainStart) (q : Asked) → HasDistinctIds (docs_at (S.stands store.old).seen snapshot) → Stands ask.now q → StandsFor plan.now (plan_of tx.old.pending q) → AtRead program.now.code (S.stands store.old).program s (docs_at (S.stands store.old).seen snapshot) machine.old tx.old q → IfOk result (λ p. Pauses program.now.code (S.stands store.old).program s (docs_at (S.stands store.old).seen snapshot) machine.new tx.new p) }
+    ensures turn { OneTurn after_read (S.stands store.old).turns (S.stands store.new).turns result }
+    ensures ok { GoesOnFromRead program.now.code (S.stands store.old) snapshot ask.now plan.now machine.old machine.new tx.old tx.new result }
     ensures snapshot { tx.new.snapshot ≡ tx.old.snapshot }
     ensures reads { OnOk result (length tx.new.reads ≡ length tx.old.reads + 1) }
 {

@@ -1,7 +1,8 @@
 //! How a run starts: its machine, an empty transaction, and its way to the first pause.
 ghost use Rattle.std.specs.Prelude.{◌≡◌, ◌^◌, ◌<◌, [], IfOk, OnOk, OnErr};
 ghost use Rattle.cv_run.specs.Pauses.{Pauses};
-ghost use Rattle.cv_store.specs.Jobs.{one_more, AtMostOne};
+ghost use Rattle.cv_store.specs.Jobs.{AtMostOne};
+ghost use Rattle.cv_store.specs.Turns.{one_more};
 ghost use Rattle.fn_tree.specs.Documents.{Docs};
 ghost use Rattle.fn_tree.specs.Functions.{Start as PlainStart, course_of};
 ghost use Rattle.fn_tree.specs.PutLaws.{IsFresh};

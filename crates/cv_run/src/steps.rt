@@ -1,20 +1,20 @@
 //! The steps of a job: a begin, a read and a commit, of one store call each.
 ghost use Rattle.std.specs.Prelude.{◌≡◌, ℕ, None, Some, length, option_map, IfOk, OnOk, OnErr};
 ghost use Rattle.cv_run.specs.Unders.{under_attempt, program_of};
-ghost use Rattle.cv_store.specs.Jobs.{one_more, ended_as, StepsBegin, Steps, AtMostOne};
+ghost use Rattle.cv_store.specs.Jobs.{ended_as, StepsBegin, Steps, AtMostDue, AtMostOne};
 ghost use Rattle.cv_store.specs.Kept.{kept};
 ghost use Rattle.cv_store.specs.Stores.{GoesOn, Reads, IsRunOf, Commits};
+ghost use Rattle.cv_store.specs.Turns.{one_more, after_begin, after_commit, AtMostOneTurn, OneTurn};
 ghost use Rattle.cv_store.specs.declared.proposal.Ended.{Ended as HowEnded};
 ghost use Rattle.fn_tree.specs.History.{IsLegal};
 ghost use Rattle.fn_tree.specs.SyntaxViews.{module_view};
 
 use crate::attempt::Attempt;
-use crate::basis::Basis;
 use crate::laws::snapshots_hold;
 use crate::pause::Pause;
 use crate::run_on::read_on;
 use crate::starts::start_run;
-use cv_store::{Begun, Ended, JobWent, Proposal, Runs, Store};
+use cv_store::{Begun, Ended, JobWent, Meant, Proposal, Runs, Seen, Store};
 use cv_values::Memory;
 use fn_load::Program;
 use fn_tree::{Call, Origin, Reply};
@@ -57,14 +57,16 @@ fn start_attempt<S: Store>(
         origin: Some(origin_of(call)),
     };
     let (machine, tx, pause) = start_run(alloc, program, &start, ts, runs)?;
-    let basis = Basis::of(store, program);
+    let seen = Seen::of(store);
+    let meant = Meant::of_module(program.checked.module());
     Ok(Attempt {
         call: copied,
         snapshot: ts,
         machine,
         tx,
         pause,
-        basis,
+        seen,
+        meant,
     })
 }
 
@@ -79,6 +81,7 @@ pub fn begin<S: Store>(
     requires program { module_view program.now.checked.tree ≡ (S.stands store.old).program }
     ensures ok { IfOk result (λ r. StepsBegin (S.stands store.old) (S.stands store.new) call.entry.now (option_map under_attempt r.0) runs.old.count runs.new.count r.1) }
     ensures store { Reads (S.stands store.old) (S.stands store.new) }
+    ensures turns { OnErr result (AtMostOneTurn after_begin (S.stands store.old).turns (S.stands store.new).turns) }
     ensures runs { OnErr result (AtMostOne runs.old.count runs.new.count) }
 {
     match store.begin(alloc, call.session, call.request)? {
@@ -112,6 +115,7 @@ fn commit<S: Store>(
     requires reply { reply ≡ p.reply }
     ensures ok { IfOk result (λ went. (ended : HowEnded) × Commits (S.stands store.old) (S.stands store.new) p ended × (went ≡ ended_as p ended)) }
     ensures store { OnErr result (Reads (S.stands store.old) (S.stands store.new)) }
+    ensures turn { OneTurn after_commit (S.stands store.old).turns (S.stands store.new).turns result }
 {
     match store.commit(alloc, p) {
         Ok(ended) => Ok(told(ended, reply)),
@@ -128,9 +132,10 @@ pub fn go_on<S: Store>(
 ) -> Result<(Option<Attempt>, JobWent), Memory>
     requires program { module_view program.now.checked.tree ≡ (S.stands store.old).program }
     requires same { program_of attempt ≡ (S.stands store.old).program }
-    requires over { GoesOn attempt.basis.history (S.stands store.old).seen }
+    requires over { GoesOn attempt.seen.history (S.stands store.old).seen }
     ensures ok { (runs : ℕ) → IfOk result (λ r. Steps (S.stands store.old) (S.stands store.new) attempt.call (Some (under_attempt attempt)) (option_map under_attempt r.0) runs runs r.1) }
     ensures store { OnErr result (Reads (S.stands store.old) (S.stands store.new)) }
+    ensures turns { OnErr result (AtMostDue (S.stands store.old) (S.stands store.new) (Some (under_attempt attempt))) }
 {
     let Attempt {
         call,
@@ -138,7 +143,8 @@ pub fn go_on<S: Store>(
         mut machine,
         mut tx,
         pause,
-        basis: _,
+        seen: _,
+        meant,
     } = attempt;
     match pause {
         Pause::Read { ask, plan } => {
@@ -152,14 +158,15 @@ pub fn go_on<S: Store>(
                 &ask,
                 &plan,
             )?;
-            let basis = Basis::of(store, program);
+            let seen = Seen::of(store);
             let after = Attempt {
                 call,
                 snapshot,
                 machine,
                 tx,
                 pause,
-                basis,
+                seen,
+                meant,
             };
             Ok((Some(after), JobWent::Moved))
         }

@@ -1,3 +1,4 @@
+pub mod Appending
 pub mod Entries
 pub mod Events
 pub mod LineLemmas
@@ -7,4 +8,4 @@ pub mod Playing
 pub mod ScriptEvents
 pub mod ScriptWords
 pub mod Texts
-pub mod Writes
+pub mod Writing

@@ -14,9 +14,9 @@ use Rattle.cv_stand.proofs.Entries.{pair_in as call_pair, unknown_pair, found_fr
 -- ---- one event
 
 -- a new entry
-new_legal : (m : ModuleTree) (h : History) (call : Call) → IsLegal m h → found 0 h (call_pair call) ≡ None → IsLegal m (h ++ next_entry m h call ∷ [])
+new_legal : (m : ModuleTree) (h : History) (call : Call) → IsLegal m h → found h (call_pair call) ≡ None → IsLegal m (h ++ next_entry m h call ∷ [])
 new_legal m h call l none =
-    go_on_by_runs m h (next_entry m h call) l (record { reply = refl; writes = refl }) (unknown_pair 0 h (call_pair call) none)
+    go_on_by_runs m h (next_entry m h call) l (record { reply = refl; writes = refl }) (unknown_pair h (call_pair call) none)
 
 -- an event makes a history go on, and it stays legal
 record GoesOn (m : ModuleTree) (h after : History) : Type 0 where
@@ -28,12 +28,12 @@ stays : (m : ModuleTree) (h : History) → IsLegal m h → GoesOn m h h
 stays m h l = record { more = []; is = sym (append-nil h); legal = l }
 
 request_goes_on : (m : ModuleTree) (s : Stage) (r : Request) → IsLegal m s.history → GoesOn m s.history (after_request m s r)
-request_goes_on m s r l = go (found 0 s.history (pair_in r)) refl
+request_goes_on m s r l = go (found s.history (pair_in r)) refl
   where
     call : Call
     call = call_at s.clock r
 
-    go : (o : Option (ℕ × Reply)) → found 0 s.history (pair_in r) ≡ o → GoesOn m s.history (after_request m s r)
+    go : (o : Option (ℕ × Reply)) → found s.history (pair_in r) ≡ o → GoesOn m s.history (after_request m s r)
     go (Some f) e = subst (λ (x : History). GoesOn m s.history x) (sym (after_known m s.history call f e)) (stays m s.history l)
     go None e =
         let made : Entry = next_entry m s.history call in
@@ -49,7 +49,7 @@ told_later : (m : ModuleTree) (s : Stage) (more final : History) (e : Event) →
 told_later m s more final (sets_clock now) is = refl
 told_later m s more final (calls r) is =
     let f = call_found m s.history (call_at s.clock r) in
-    let later : found 0 final (pair_in r) ≡ Some f.0 = ap (λ (x : History). found 0 x (pair_in r)) is ∙ found_front 0 (after_request m s r) more (pair_in r) f.0 f.1 in
+    let later : found final (pair_in r) ≡ Some f.0 = ap (λ (x : History). found x (pair_in r)) is ∙ found_front (after_request m s r) more (pair_in r) f.0 f.1 in
     ap (λ (o : Option (ℕ × Reply)). option_map_or (λ g. reply_line g.0 g.1 ∷ []) o []) (f.1 ∙ sym later)
 told_later m s more final tells_log is = refl
 

@@ -2,7 +2,7 @@
 use Rattle.std.proofs.Common.{◌≡◌, ℕ, ◌+◌, ◌<◌, Bool, true, false, cond, List, [], ◌∷◌, ◌++◌, length, drop, Option, Some, None, refl, sym, ap, ◌∙◌, subst, arith, append-nil}
 use Rattle.std.specs.Prelude.{nat_lt, MatchBool}
 use Rattle.std.proofs.lemmas.Bool.{ltb-true}
-use Rattle.std.proofs.lemmas.List.{drop_all, take_all, length-append}
+use Rattle.std.proofs.lemmas.List.{take_all, length-append}
 use Rattle.cv_core.specs.Cores.{program_of}
 use Rattle.cv_core.specs.Solos.{Solo, stands_of}
 use Rattle.fn_tree.specs.Course.{Reply}
@@ -12,10 +12,12 @@ use Rattle.fn_tree.specs.Run.{Run, run}
 use Rattle.fn_tree.specs.SyntaxTree.{ModuleTree}
 use Rattle.fn_tree.specs.declared.entry.Call.{Call}
 use Rattle.fn_tree.specs.declared.entry.Reply.{Reply as HeldReply}
-use Rattle.cv_store.specs.FirstTouch.{by_key, entries_touch}
-use Rattle.cv_store.specs.Jobs.{Under, Steps, StepsBegin, StepsRead, StepsCommit, reads_of as reads_under, begun_as, ended_as, one_more, runs_begun, under_of}
+use Rattle.cv_store.proofs.LongerHistories.{keys_go_on}
+use Rattle.cv_store.specs.FirstTouch.{first_touch}
+use Rattle.cv_store.specs.Jobs.{Under, Steps, StepsBegin, StepsRead, StepsCommit, reads_of as reads_under, begun_as, ended_as, runs_begun, under_of}
 use Rattle.cv_store.specs.Kept.{kept}
-use Rattle.cv_store.specs.Stores.{Extends, Reads, Begins, Commits, entry_of}
+use Rattle.cv_store.specs.Stores.{Extends, Reads, Begins, Commits, schema_in, entry_of}
+use Rattle.cv_store.specs.Turns.{one_more}
 use Rattle.cv_store.specs.declared.conflict.Conflict.{Conflict}
 use Rattle.cv_store.specs.declared.job.JobWent.{JobWent}
 use Rattle.cv_store.specs.declared.job.JobWent.TheVariants.{Moved, SentBack, Done}
@@ -182,9 +184,11 @@ module _ (m : ModuleTree) (call : Call) (s t : Solo) where
       no_touch : (touch : Conflict) → Commits (stands_of s) (stands_of t) c.proposal (ended.SentBack touch) → ⊥
       no_touch touch (stays, is) =
           let log = log_stays s t i.start stays.reads in
-          let end : drop c.proposal.snapshot t.core.log ≡ [] =
-          ap (λ (n : ℕ). drop n t.core.log) (c.snapshot ∙ i.at.snapshot ∙ ap length (sym log)) ∙ drop_all (length t.core.log) t.core.log (omega arith) in
-          let none : ◌≡◌ {A = Option Conflict} None (Some touch) = ap (entries_touch _ by_key c.proposal.reads c.proposal.snapshot) (sym end) ∙ is in
+          let end : c.proposal.snapshot ≡ length t.core.log = c.snapshot ∙ i.at.snapshot ∙ ap length (sym log) in
+          let schema = schema_in (stands_of s) in
+          let untouched : first_touch schema c.proposal.reads t.core.log c.proposal.snapshot ≡ None =
+          ap (λ (n : ℕ). first_touch schema c.proposal.reads t.core.log n) end ∙ keys_go_on.end schema c.proposal.reads t.core.log in
+          let none : ◌≡◌ {A = Option Conflict} None (Some touch) = sym untouched ∙ is in
           cc
 
       commit_sent : moment went ≡ 1 → ⊥
@@ -208,13 +212,13 @@ module _ (m : ModuleTree) (call : Call) (s t : Solo) where
           go : (e : Ended) → Commits (stands_of s) (stands_of t) c.proposal e → Done ts reply ≡ ended_as c.proposal e → IsPlayed m call s t ts reply
           go (ended.Committed n) (before, appends, last) told =
               let log = log_grows s t (entry_of c.proposal ∷ []) i.start appends.extends in
-              let number : 0 + length s.core.log + 1 ≡ n = let grown = ap length log ∙ length-append s.core.log (entry_of c.proposal ∷ []) in omega (arith, grown, last) in
+              let number : length s.core.log + 1 ≡ n = let grown = ap length log ∙ length-append s.core.log (entry_of c.proposal ∷ []) in omega (arith, grown, last) in
               record {
                 program = appends.extends.program ∙ i.program;
                 start = same_start s t (entry_of c.proposal ∷ []) appends.extends ∙ i.start;
                 history = log ∙ ap (λ (e : Entry). s.core.log ++ e ∷ []) made ∙ sym (after_new m s.core.log call i.at.new);
-                told = ap (kept call.session call.request) log ∙ found_end 0 s.core.log (entry_of c.proposal) (pair_in call) i.at.new
-                    ∙ ap (λ (b : Bool). cond b (Some (0 + length s.core.log + 1, reply_view c.proposal.reply)) None) (own_pair call (entry_of c.proposal) same_call)
+                told = ap (kept call.session call.request) log ∙ found_end s.core.log (entry_of c.proposal) (pair_in call) i.at.new
+                    ∙ ap (λ (b : Bool). cond b (Some (length s.core.log + 1, reply_view c.proposal.reply)) None) (own_pair call (entry_of c.proposal) same_call)
                     ∙ ap (λ (k : ℕ). Some (k, reply_view c.proposal.reply)) number
                     ∙ ap (λ (w : JobWent). Some (ts_in w, reply_view (reply_in reply w))) (sym told);
               }

@@ -1,9 +1,7 @@
 -- How far lines have been written.
-use Rattle.std.proofs.Common.{◌≡◌, ℕ, suc, ◌+◌, ◌<◌, ◌≤◌, List, [], ◌∷◌, ◌++◌, length, get_or, drop, Option, None, Some, zero, refl, sym, ap, ◌∙◌, append_assoc, append-nil, add-one, drop-cons, subst, arith}
+use Rattle.std.proofs.Common.{◌≡◌, ℕ, suc, ◌+◌, ◌<◌, ◌≤◌, List, [], ◌∷◌, ◌++◌, length, get_or, drop, Option, None, Some, zero, refl, sym, ap, ◌∙◌, append_assoc, add-one, drop-cons, arith}
 use Rattle.std.specs.Prelude.{map, codes, slice_get}
 use Rattle.std.proofs.lemmas.List.{drop_all, drop-map}
-use Rattle.std.specs.Io.KnownBytes.{Appends}
-use Rattle.cv_outside.specs.Causes.{AppendsPart}
 use Rattle.fn_tree.specs.History.{Entry, History}
 use Rattle.fn_tree.specs.SyntaxTree.{ModuleTree}
 use Rattle.cv_log.specs.Logs.{entry_at}
@@ -11,7 +9,7 @@ use Rattle.cv_stand.specs.EntryLines.{entry_line, entry_lines, length_line}
 use Rattle.cv_stand.specs.Events.{Event, Script}
 use Rattle.cv_stand.specs.Plays.{Stage, Played, after, opening, output, play}
 use Rattle.cv_stand.specs.Texts.{last_lines, script_text, with_feeds, written}
-use Rattle.cv_stand.proofs.Writes.{Appends-none, Appends-append, part_more}
+use Rattle.cv_stand.proofs.Writing.{Writing, writing_none}
 
 next_item : {X : Type 0} (xs : List X) (i : ℕ) (x : X) → i < length xs → x ≡ get_or xs i x → drop i xs ≡ x ∷ drop (i + 1) xs
 next_item xs i x lt is = rw (add-one, drop-cons xs i x) (ap (λ y. y ∷ drop (suc i) xs) (sym is))
@@ -27,32 +25,6 @@ pub feeds-append : (xs ys : List (List ℕ)) → with_feeds (xs ++ ys) ≡ with_
 feeds-append [] ys = refl
 feeds-append (x ∷ xs) ys = ap (λ (t : List ℕ). x ++ (codes "\n" ++ t)) (feeds-append xs ys) ∙ sym (append_assoc x (codes "\n" ++ with_feeds xs) (with_feeds ys))
 
--- so much of a text was written, and this is left
-pub record Writing (whole : List ℕ) (h0 h1 : Option (List ℕ)) (left : List ℕ) : Type 0 where
-  pub written : List ℕ
-  pub appended : Appends h0 h1 written
-  pub is : whole ≡ written ++ left
-
-pub writing_none : (whole : List ℕ) (h0 : Option (List ℕ)) → Writing whole h0 h0 whole
-writing_none whole h0 = record { written = []; appended = Appends-none h0; is = refl }
-
-pub writing_more : (whole now next left : List ℕ) (h0 h1 h2 : Option (List ℕ)) → left ≡ now ++ next → Writing whole h0 h1 left → Appends h1 h2 now → Writing whole h0 h2 next
-writing_more whole now next left h0 h1 h2 split w appended = record {
-  written = w.written ++ now;
-  appended = Appends-append h0 h1 h2 w.written now w.appended appended;
-  is = w.is ∙ ap (λ (t : List ℕ). w.written ++ t) split ∙ sym (append_assoc w.written now next);
-}
-
-pub writing_part : (whole now next left : List ℕ) (h0 h1 h2 : Option (List ℕ)) → left ≡ now ++ next → Writing whole h0 h1 left → AppendsPart h1 h2 now → AppendsPart h0 h2 whole
-writing_part whole now next left h0 h1 h2 split w part =
-    rw (w.is ∙ ap (λ (t : List ℕ). w.written ++ t) split) (part_more h0 h1 h2 w.written now next w.appended part)
-
-pub writing_so_far : (whole left : List ℕ) (h0 h1 : Option (List ℕ)) → Writing whole h0 h1 left → AppendsPart h0 h1 whole
-writing_so_far whole left h0 h1 w = writing_part whole [] left left h0 h1 h1 refl w (0, Appends-none h1)
-
-pub writing_all : (whole left : List ℕ) (h0 h1 : Option (List ℕ)) → left ≡ [] → Writing whole h0 h1 left → Appends h0 h1 whole
-writing_all whole left h0 h1 none w = rw (w.is ∙ ap (λ (t : List ℕ). w.written ++ t) none ∙ append-nil w.written) w.appended
-
 -- ---- entries
 
 -- what the entries from one on tell
@@ -62,51 +34,26 @@ entries_split h rest i e next = ap (λ (x : History). with_feeds (entry_lines i 
 -- ---- events
 
 -- how far events were played: the rest of them will leave and write what the whole does
-pub record Playing (m : ModuleTree) (s0 : Stage) (es : List (ℕ × Event)) (h0 h1 : Option (List ℕ)) (s : Stage) (rest : List (ℕ × Event)) : Type 0 where
+pub record Playing (m : ModuleTree) (s0 : Stage) (es : List (ℕ × Event)) (h0 h1 : Option (List ℕ)) (f0 f1 : ℕ) (s : Stage) (rest : List (ℕ × Event)) : Type 0 where
   pub last : (play m s0 es).last ≡ (play m s rest).last
-  pub writing : Writing (with_feeds (play m s0 es).lines) h0 h1 (with_feeds (play m s rest).lines)
+  pub writing : Writing (with_feeds (play m s0 es).lines) h0 h1 f0 f1 (with_feeds (play m s rest).lines)
 
-pub playing_none : (m : ModuleTree) (s0 : Stage) (es : List (ℕ × Event)) (h0 : Option (List ℕ)) → Playing m s0 es h0 h0 s0 es
-playing_none m s0 es h0 = record { last = refl; writing = writing_none _ h0 }
+pub playing_none : (m : ModuleTree) (s0 : Stage) (es : List (ℕ × Event)) (h0 : Option (List ℕ)) (f0 : ℕ) → Playing m s0 es h0 h0 f0 f0 s0 es
+playing_none m s0 es h0 f0 = record { last = refl; writing = writing_none _ h0 f0 }
 
-module _ (m : ModuleTree) (s0 : Stage) (es : List (ℕ × Event)) (h0 h1 h2 : Option (List ℕ)) (s : Stage) (e : ℕ × Event) (rest : List (ℕ × Event)) where
-  split : with_feeds (play m s (e ∷ rest)).lines ≡ with_feeds (output m s e.1) ++ with_feeds (play m (after m s e.1) rest).lines
-  split = feeds-append (output m s e.1) (play m (after m s e.1) rest).lines
-
-  pub playing_more : Playing m s0 es h0 h1 s (e ∷ rest) → Appends h1 h2 (with_feeds (output m s e.1)) → Playing m s0 es h0 h2 (after m s e.1) rest
-  playing_more w appended = record { last = w.last; writing = writing_more _ _ _ _ h0 h1 h2 split w.writing appended }
-
-  pub playing_part : Playing m s0 es h0 h1 s (e ∷ rest) → AppendsPart h1 h2 (with_feeds (output m s e.1)) → AppendsPart h0 h2 (with_feeds (play m s0 es).lines)
-  playing_part w part = writing_part _ _ _ _ h0 h1 h2 split w.writing part
+-- what an event and the rest write
+pub events_split : (m : ModuleTree) (s : Stage) (e : ℕ × Event) (rest : List (ℕ × Event)) → with_feeds (play m s (e ∷ rest)).lines ≡ with_feeds (output m s e.1) ++ with_feeds (play m (after m s e.1) rest).lines
+events_split m s e rest = feeds-append (output m s e.1) (play m (after m s e.1) rest).lines
 
 -- ---- a whole script
 
--- what was played, and then its end
-pub written_split : (bad : Option ℕ) (p : Played) → written bad p ≡ with_feeds p.lines ++ with_feeds (last_lines bad p.last.history)
-written_split bad p = feeds-append p.lines (last_lines bad p.last.history)
-
-module _ (m : ModuleTree) (script : Script) (s0 s1 : Stage) (h0 h1 h2 : Option (List ℕ)) (opens : s0 ≡ opening) where
-  abbrev pub first : List ℕ
-  first = with_feeds (play m s0 script.events).lines
-
-  whole : script_text m script ≡ first ++ with_feeds (last_lines script.bad (play m s0 script.events).last.history)
-  whole = ap (λ (s : Stage). written script.bad (play m s script.events)) (sym opens) ∙ written_split script.bad (play m s0 script.events)
-
-  -- the events were told, and then the end
-  pub script_done : s1 ≡ (play m s0 script.events).last → Appends h0 h1 first → Appends h1 h2 (with_feeds (last_lines script.bad s1.history)) → Appends h0 h2 (script_text m script)
-  script_done last events end =
-      subst (λ (t : List ℕ). Appends h0 h2 t) (sym (whole ∙ ap (λ (s : Stage). first ++ with_feeds (last_lines script.bad s.history)) (sym last)))
-      (Appends-append h0 h1 h2 first (with_feeds (last_lines script.bad s1.history)) events end)
-
-  pub script_part : s1 ≡ (play m s0 script.events).last → Appends h0 h1 first → AppendsPart h1 h2 (with_feeds (last_lines script.bad s1.history)) → AppendsPart h0 h2 (script_text m script)
-  script_part last events end =
-      subst (λ (t : List ℕ). AppendsPart h0 h2 t) (sym (whole ∙ ap (λ (s : Stage). first ++ with_feeds (last_lines script.bad s.history)) (sym last)))
-      (rw append-nil at (part_more h0 h1 h2 first (with_feeds (last_lines script.bad s1.history)) [] events end))
-
-  -- the events were told in part
-  pub script_cut : AppendsPart h0 h1 first → AppendsPart h0 h1 (script_text m script)
-  script_cut part =
-      subst (λ (t : List ℕ). AppendsPart h0 h1 t) (sym whole) (part_more h0 h0 h1 [] first (with_feeds (last_lines script.bad (play m s0 script.events).last.history)) (Appends-none h0) part)
+-- what events write from the opening, and then the end
+pub script_split : (m : ModuleTree) (script : Script) (s0 s1 : Stage) → s0 ≡ opening → s1 ≡ (play m s0 script.events).last
+    → script_text m script ≡ with_feeds (play m s0 script.events).lines ++ with_feeds (last_lines script.bad s1.history)
+script_split m script s0 s1 opens last =
+    let p : Played = play m s0 script.events in
+    ap (λ (s : Stage). written script.bad (play m s script.events)) (sym opens) ∙ feeds-append p.lines (last_lines script.bad p.last.history)
+    ∙ ap (λ (s : Stage). with_feeds p.lines ++ with_feeds (last_lines script.bad s.history)) (sym last)
 
 -- the end of a script without a bad line
 pub end_is : (bad : Option ℕ) (h : History) (line : List ℕ) → bad ≡ None → line ≡ length_line (length h) → with_feeds (line ∷ []) ≡ with_feeds (last_lines bad h)

@@ -8,3 +8,4 @@ pub mod ScriptViews
 pub mod Stands
 pub mod Texts
 pub mod Underway
+pub mod Writes

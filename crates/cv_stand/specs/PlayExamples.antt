@@ -63,8 +63,8 @@ abbrev pub IsWorkedPlay : Type 0
 IsWorkedPlay =
     ((play program opening events).last.clock ≡ pos 5)
     × (moments (play program opening events).last.history ≡ (1, pos 0) ∷ (2, pos 5) ∷ (3, pos 5) ∷ [])
-    × (found 0 (play program opening events).last.history (1, 1) ≡ Some (1, gives (string (codes "a"))))
-    × (found 0 (play program opening events).last.history (1, 3) ≡ Some (3, failed (codes "UnknownFunction")))
+    × (found (play program opening events).last.history (1, 1) ≡ Some (1, gives (string (codes "a"))))
+    × (found (play program opening events).last.history (1, 3) ≡ Some (3, failed (codes "UnknownFunction")))
     × ((play program opening events).lines ≡
     codes "reply 1 ok \"a\"" ∷ codes "reply 1 ok \"a\"" ∷ codes "reply 2 ok \"c\"" ∷ codes "reply 3 error \"UnknownFunction\"" ∷ [])
     × (script_text program (record { events = (3, sets_clock (pos 1)) ∷ []; bad = None }) ≡ codes "ts 0\n")

@@ -6,8 +6,8 @@ use Rattle.fn_tree.specs.History.{Entry, History, IsLegal, Pair, docs_after, sta
 use Rattle.fn_tree.specs.Run.{Run, run}
 use Rattle.fn_tree.specs.SyntaxTree.{ModuleTree}
 use Rattle.fn_tree.specs.declared.entry.Call.{Call}
-use Rattle.cv_store.specs.Jobs.{one_more}
-use Rattle.cv_store.specs.Kept.{kept_after}
+use Rattle.cv_store.specs.Kept.{kept}
+use Rattle.cv_store.specs.Turns.{one_more}
 use Rattle.cv_stand.specs.EntryLines.{entry_lines, reply_line}
 use Rattle.cv_stand.specs.Events.{Event, sets_clock, calls, tells_log, Request}
 
@@ -25,9 +25,9 @@ opening = record { clock = pos 0; history = [] }
 abbrev pub pair_in : Request → Pair
 pair_in r = (r.session, r.request)
 
--- the first entry of a session's request, after so many others: its timestamp and its reply
-abbrev pub found : ℕ → History → Pair → Option (ℕ × Reply)
-found n h pair = kept_after pair.0 pair.1 n h
+-- the first entry of a session's request: its timestamp and its reply
+abbrev pub found : History → Pair → Option (ℕ × Reply)
+found h pair = kept pair.0 pair.1 h
 
 -- the call of a request at a moment
 abbrev pub call_at : ℤ → Request → Call
@@ -43,7 +43,7 @@ next_entry m h call = entry_of call (run m (start_of call) (docs_after h []))
 
 -- the history after a request: it gains the run of its call at this moment, unless it holds the session's request
 abbrev pub after_request : ModuleTree → Stage → Request → History
-after_request m s r = if is_some (found 0 s.history (pair_in r)) then s.history else s.history ++ next_entry m s.history (call_at s.clock r) ∷ []
+after_request m s r = if is_some (found s.history (pair_in r)) then s.history else s.history ++ next_entry m s.history (call_at s.clock r) ∷ []
 
 -- the request that a call is of
 abbrev pub request_of : Call → Request
@@ -55,7 +55,7 @@ after_call m h call = after_request m (record { clock = call.now; history = h })
 
 -- the line that tells the reply of a request's entry in a history
 abbrev pub told : History → Request → List (List ℕ)
-told h r = option_map_or (λ f. reply_line f.0 f.1 ∷ []) (found 0 h (pair_in r)) []
+told h r = option_map_or (λ f. reply_line f.0 f.1 ∷ []) (found h (pair_in r)) []
 
 -- ---- events
 
@@ -73,7 +73,7 @@ output m s tells_log = entry_lines 0 s.history
 -- how many runs were started after an event: a call starts one, unless its request has an entry
 abbrev pub runs_after : History → Event → ℕ → ℕ
 runs_after h (sets_clock now) n = n
-runs_after h (calls r) n = if is_some (found 0 h (pair_in r)) then n else one_more n
+runs_after h (calls r) n = if is_some (found h (pair_in r)) then n else one_more n
 runs_after h tells_log n = n
 
 -- the lines that events wrote, and where they came to

@@ -4,9 +4,8 @@ use Rattle.std.specs.Coded.{Coded, code_by, coded×, coded_ℤ}
 use Rattle.fn_tree.specs.History.{History}
 use Rattle.fn_tree.specs.SyntaxTree.{ModuleTree}
 use Rattle.fn_tree.specs.SyntaxViews.{module_view}
-use Rattle.fn_tree.specs.contracts.syntax.Module as module_row
 use Rattle.fn_tree.specs.declared.syntax.Module.{Module}
-use Rattle.cv_log.specs.Codes.{history_code}
+use Rattle.cv_store.specs.Codes.{history_code, module_code}
 use Rattle.cv_stand.specs.Plays.{Stage}
 
 -- the module of its program, and where its events came to
@@ -15,7 +14,7 @@ pub record Stood : Type 0 where
   pub stage : Stage
 
 abbrev pub stood_code : Coded Stood
-stood_code = code_by (Module × (ℤ × History)) (coded× module_row.the_row.coded (coded× coded_ℤ history_code))
+stood_code = code_by (Module × (ℤ × History)) (coded× module_code (coded× coded_ℤ history_code))
     (λ s. (s.tree, (s.stage.clock, s.stage.history))) (λ p. record { tree = p.0; stage = record { clock = p.1.0; history = p.1.1 } }) (λ _. refl)
 
 abbrev pub module_of : Stood → ModuleTree

@@ -8,8 +8,9 @@ use Rattle.fn_tree.specs.Run.{run}
 use Rattle.fn_tree.specs.SyntaxTree.{ModuleTree}
 use Rattle.fn_tree.specs.declared.entry.Call.{Call}
 use Rattle.fn_tree.specs.declared.entry.Reply.{Reply}
-use Rattle.cv_store.specs.Jobs.{Under, one_more}
+use Rattle.cv_store.specs.Jobs.{Under}
 use Rattle.cv_store.specs.Kept.{kept}
+use Rattle.cv_store.specs.Turns.{one_more}
 use Rattle.cv_stand.specs.Events.{calls}
 use Rattle.cv_stand.specs.Plays.{after_call, request_of, runs_after}
 

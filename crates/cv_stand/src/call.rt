@@ -43,20 +43,18 @@ pub fn play_out(
     alloc: Global,
     program: &Program,
     store: &mut SoloStore,
-    job: &mut RunJob,
     call: &Call,
     runs: &mut Runs,
 ) -> Result<(u64, Reply), Memory>
-    requires call { InCall (module_view program.now.checked.tree) call.now store.old (under_job job.old) }
-    requires begin { under_job job.old ≡ None }
+    requires { InCall (module_view program.now.checked.tree) call.now store.old None }
     ensures ok { IfOk result (λ r. IsPlayed (module_view program.now.checked.tree) call.entry.now store.old store.new r.0 r.1) }
     ensures runs { OnOk result (runs.new.count ≡ runs_after store.old.core.log (calls (request_of call.entry.now)) runs.old.count) }
     ensures tried { OnErr result (AtMostOne runs.old.count runs.new.count) }
     ensures start { store.new.start ≡ store.old.start }
-    ensures under { under_job job.new ≡ None }
 {
+    let mut job = RunJob::new(alloc);
     loop {
-        if let Some(played) = step_call(alloc, program, store, job, call, runs)? {
+        if let Some(played) = step_call(alloc, program, store, &mut job, call, runs)? {
             return Ok(played);
         }
     }

@@ -1,12 +1,11 @@
 //! The lines that tell replies and entries.
-ghost use Rattle.std.specs.Prelude.{◌≡◌, ◌≢◌, ◌⊎◌, ◌≤◌, ◌∷◌, [], IfOk, IfErr, OnOk, OnErr, string_bytes};
-ghost use Rattle.std.specs.Io.KnownBytes.{Appends};
-ghost use Rattle.cv_outside.specs.Causes.{AppendsPart, Rose};
+ghost use Rattle.std.specs.Prelude.{◌≡◌, ◌∷◌, [], IfOk, string_bytes};
 ghost use Rattle.cv_values.specs.Trees.{tree};
 ghost use Rattle.fn_tree.specs.Course.{gives, failed};
 ghost use Rattle.fn_tree.specs.EntryViews.{entry_view, reply_view};
 ghost use Rattle.cv_stand.specs.EntryLines.{entry_line, entry_lines, reply_json, reply_line};
 ghost use Rattle.cv_stand.specs.Texts.{with_feeds};
+ghost use Rattle.cv_stand.specs.Writes.{Writes};
 ghost use Rattle.cv_stand.specs.declared.output.PlayFault.TheVariants.{Memory as MemoryFault};
 
 use cv_core::Core;
@@ -79,12 +78,8 @@ fn log_line(alloc: Global, ts: u64, entry: &Entry) -> Result<String, Memory>
 
 /// Writes a line with its line feed.
 pub(crate) fn write_line<K: Sink>(out: &mut K, line: String) -> Result<(), PlayFault>
-    ensures ok { OnOk result (Appends (K.held out.old) (K.held out.new) (with_feeds (string_bytes line ∷ []))) }
-    ensures err { OnErr result (AppendsPart (K.held out.old) (K.held out.new) (with_feeds (string_bytes line ∷ []))) }
-    ensures fault { IfErr result (λ e. (e ≡ PlayFault.Write) ⊎ (e ≡ PlayFault.Memory)) }
-    ensures write { result ≡ Err PlayFault.Write → Rose (K.faults out.old) (K.faults out.new) }
-    ensures kept { result ≢ Err PlayFault.Write → K.faults out.new ≡ K.faults out.old }
-    ensures later { K.faults out.old ≤ K.faults out.new }
+    ensures { Writes (with_feeds (string_bytes line ∷ []))
+        (K.held out.old) (K.held out.new) (K.faults out.old) (K.faults out.new) result }
 {
     let mut text = line;
     if text.push('\n').is_err() {
@@ -102,12 +97,8 @@ pub(crate) fn write_entries<K: Sink>(
     core: &Core,
     out: &mut K,
 ) -> Result<(), PlayFault>
-    ensures done { OnOk result (Appends (K.held out.old) (K.held out.new) (with_feeds (entry_lines 0 core.now.log))) }
-    ensures part { OnErr result (AppendsPart (K.held out.old) (K.held out.new) (with_feeds (entry_lines 0 core.now.log))) }
-    ensures fault { IfErr result (λ e. (e ≡ PlayFault.Write) ⊎ (e ≡ PlayFault.Memory)) }
-    ensures write { result ≡ Err PlayFault.Write → Rose (K.faults out.old) (K.faults out.new) }
-    ensures kept { result ≢ Err PlayFault.Write → K.faults out.new ≡ K.faults out.old }
-    ensures later { K.faults out.old ≤ K.faults out.new }
+    ensures { Writes (with_feeds (entry_lines 0 core.now.log))
+        (K.held out.old) (K.held out.new) (K.faults out.old) (K.faults out.new) result }
 {
     for i in 0..core.len() {
         // Each number from 1 to the length has an entry.

@@ -1,13 +1,12 @@
 //! Plays a whole script on a new stand.
-ghost use Rattle.std.specs.Prelude.{◌≡◌, ◌≢◌, ◌⊎◌, ◌≤◌, IfOk, IfErr, OnOk, OnErr, string_bytes};
-ghost use Rattle.std.specs.Io.KnownBytes.{Appends};
-ghost use Rattle.cv_outside.specs.Causes.{AppendsPart, Rose};
+ghost use Rattle.std.specs.Prelude.{◌≡◌, IfOk, OnOk, string_bytes};
 ghost use Rattle.fn_tree.specs.SyntaxViews.{module_view};
 ghost use Rattle.cv_stand.specs.EntryLines.{length_line};
 ghost use Rattle.cv_stand.specs.Plays.{IsOneLog, play};
 ghost use Rattle.cv_stand.specs.ScriptViews.{events_view, script_view};
 ghost use Rattle.cv_stand.specs.Stands.{module_of};
 ghost use Rattle.cv_stand.specs.Texts.{last_lines, script_text, with_feeds};
+ghost use Rattle.cv_stand.specs.Writes.{Writes};
 
 use crate::laws::scripts_make_one_log;
 use crate::output::{PlayFault, write_line};
@@ -36,12 +35,8 @@ fn play_all<K: Sink>(
 ) -> Result<(), PlayFault>
     requires { module_view program.now.checked.tree ≡ module_of stand.old }
     ensures last { OnOk result (stand.new.stage ≡ (play (module_of stand.old) stand.old.stage (events_view events.now)).last) }
-    ensures done { OnOk result (Appends (K.held out.old) (K.held out.new) (with_feeds (play (module_of stand.old) stand.old.stage (events_view events.now)).lines)) }
-    ensures part { OnErr result (AppendsPart (K.held out.old) (K.held out.new) (with_feeds (play (module_of stand.old) stand.old.stage (events_view events.now)).lines)) }
-    ensures fault { IfErr result (λ e. (e ≡ PlayFault.Write) ⊎ (e ≡ PlayFault.Memory)) }
-    ensures write { result ≡ Err PlayFault.Write → Rose (K.faults out.old) (K.faults out.new) }
-    ensures kept { result ≢ Err PlayFault.Write → K.faults out.new ≡ K.faults out.old }
-    ensures later { K.faults out.old ≤ K.faults out.new }
+    ensures writes { Writes (with_feeds (play (module_of stand.old) stand.old.stage (events_view events.now)).lines)
+        (K.held out.old) (K.held out.new) (K.faults out.old) (K.faults out.new) result }
 {
     for numbered in events {
         stand.play(alloc, program, &numbered.1, out, runs)?;
@@ -56,12 +51,8 @@ fn write_end<K: Sink>(
     stand: &Stand,
     out: &mut K,
 ) -> Result<(), PlayFault>
-    ensures done { OnOk result (Appends (K.held out.old) (K.held out.new) (with_feeds (last_lines bad stand.now.stage.history))) }
-    ensures part { OnErr result (AppendsPart (K.held out.old) (K.held out.new) (with_feeds (last_lines bad stand.now.stage.history))) }
-    ensures fault { IfErr result (λ e. (e ≡ PlayFault.Write) ⊎ (e ≡ PlayFault.Memory)) }
-    ensures write { result ≡ Err PlayFault.Write → Rose (K.faults out.old) (K.faults out.new) }
-    ensures kept { result ≢ Err PlayFault.Write → K.faults out.new ≡ K.faults out.old }
-    ensures later { K.faults out.old ≤ K.faults out.new }
+    ensures { Writes (with_feeds (last_lines bad stand.now.stage.history))
+        (K.held out.old) (K.held out.new) (K.faults out.old) (K.faults out.new) result }
 {
     match bad {
         Some(_) => Ok(()),
@@ -84,12 +75,8 @@ pub fn play_script<K: Sink>(
 ) -> Result<Option<u64>, PlayFault>
     ensures log { IsOneLog (module_view program.now.checked.tree) (script_view script.now).events }
     ensures bad { IfOk result (λ bad. bad ≡ (script_view script.now).bad) }
-    ensures done { OnOk result (Appends (K.held out.old) (K.held out.new) (script_text (module_view program.now.checked.tree) (script_view script.now))) }
-    ensures part { OnErr result (AppendsPart (K.held out.old) (K.held out.new) (script_text (module_view program.now.checked.tree) (script_view script.now))) }
-    ensures fault { IfErr result (λ e. (e ≡ PlayFault.Write) ⊎ (e ≡ PlayFault.Memory)) }
-    ensures write { result ≡ Err PlayFault.Write → Rose (K.faults out.old) (K.faults out.new) }
-    ensures kept { result ≢ Err PlayFault.Write → K.faults out.new ≡ K.faults out.old }
-    ensures later { K.faults out.old ≤ K.faults out.new }
+    ensures writes { Writes (script_text (module_view program.now.checked.tree) (script_view script.now))
+        (K.held out.old) (K.held out.new) (K.faults out.old) (K.faults out.new) result }
 {
     scripts_make_one_log();
     let mut stand = Stand::new(alloc, program)?;

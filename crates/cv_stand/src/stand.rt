@@ -1,7 +1,5 @@
 //! The stand: one store of a program with a clock, on which events are played one at a time.
-ghost use Rattle.std.specs.Prelude.{◌≡◌, ◌≢◌, ◌⊎◌, ◌≤◌, [], pos, length, IfOk, IfErr, OnOk, OnErr};
-ghost use Rattle.std.specs.Io.KnownBytes.{Appends};
-ghost use Rattle.cv_outside.specs.Causes.{AppendsPart, Rose};
+ghost use Rattle.std.specs.Prelude.{◌≡◌, length, IfOk, OnOk, OnErr};
 ghost use Rattle.fn_tree.specs.SyntaxViews.{module_view};
 ghost use Rattle.cv_store.specs.Jobs.{AtMostOne};
 ghost use Rattle.cv_stand.specs.Events.{calls};
@@ -9,32 +7,30 @@ ghost use Rattle.cv_stand.specs.Plays.{after, after_call, call_at, opening, outp
 ghost use Rattle.cv_stand.specs.ScriptViews.{event_view};
 ghost use Rattle.cv_stand.specs.Stands.{module_of};
 ghost use Rattle.cv_stand.specs.Texts.{with_feeds};
+ghost use Rattle.cv_stand.specs.Writes.{Writes};
 
 use crate::call::play_out;
 use crate::output::{PlayFault, reply_text, write_entries, write_line};
 use crate::script::Event;
 use cv_core::{Core, SoloStore};
 use cv_outside::Sink;
-use cv_run::RunJob;
-use cv_store::{Job, Runs};
+use cv_store::Runs;
 use cv_values::{Fields, Memory, Text};
 use fn_load::Program;
 use fn_tree::Call;
 use std::alloc::Global;
 use std::marker::Model;
 
-/// What a stand's clock reads, its store and the job of its calls. A stand means the module of its
-/// program, and where its events came to: what the clock reads and the log of the entries.
+/// What a stand's clock reads, and its store. A stand means the module of its program, and where its events
+/// came to: what the clock reads and the log of the entries.
 #[derive(Drop)]
 pub struct Stand {
     clock: i64,
     store: SoloStore,
-    job: RunJob,
 }
 
 impl Model for Stand {
-    ghost use Rattle.std.specs.Prelude.{◌≡◌, None};
-    ghost use Rattle.cv_run.specs.Unders.{under_job};
+    ghost use Rattle.std.specs.Prelude.{◌≡◌};
     ghost use Rattle.cv_stand.specs.Stands.{Stood, stood_code};
 
     ghost Value = { Stood };
@@ -43,7 +39,7 @@ impl Model for Stand {
 
     ghost view = { λ s. record { tree = s.store.core.tree; stage = record { clock = s.clock; history = s.store.core.log } } };
 
-    ghost invariant = { λ s. (s.store.start ≡ 0) × (under_job s.job ≡ None) };
+    ghost invariant = { λ s. s.store.start ≡ 0 };
 }
 
 /// How many entries the log has, how many tries were sent back, and how many transitions were told. Until
@@ -65,7 +61,6 @@ impl Stand {
         Ok(Stand {
             clock: 0,
             store: SoloStore::new(core),
-            job: RunJob::new(alloc),
         })
     }
 
@@ -113,16 +108,12 @@ impl Stand {
         ensures program { OnOk result (module_of self.new ≡ module_of self.old) }
         ensures clock { self.new.stage.clock ≡ self.old.stage.clock }
         ensures history { OnOk result (self.new.stage.history ≡ after_call (module_of self.old) self.old.stage.history call.entry.now) }
-        ensures done { OnOk result (Appends (K.held out.old) (K.held out.new) (with_feeds (told (after_call (module_of self.old) self.old.stage.history call.entry.now) (request_of call.entry.now)))) }
-        ensures part { OnErr result (AppendsPart (K.held out.old) (K.held out.new) (with_feeds (told (after_call (module_of self.old) self.old.stage.history call.entry.now) (request_of call.entry.now)))) }
+        ensures writes { Writes (with_feeds (told (after_call (module_of self.old) self.old.stage.history call.entry.now) (request_of call.entry.now)))
+            (K.held out.old) (K.held out.new) (K.faults out.old) (K.faults out.new) result }
         ensures runs { OnOk result (runs.new.count ≡ runs_after self.old.stage.history (calls (request_of call.entry.now)) runs.old.count) }
         ensures tried { OnErr result (AtMostOne runs.old.count runs.new.count) }
-        ensures fault { IfErr result (λ e. (e ≡ PlayFault.Write) ⊎ (e ≡ PlayFault.Memory)) }
-        ensures write { result ≡ Err PlayFault.Write → Rose (K.faults out.old) (K.faults out.new) }
-        ensures kept { result ≢ Err PlayFault.Write → K.faults out.new ≡ K.faults out.old }
-        ensures later { K.faults out.old ≤ K.faults out.new }
     {
-        let (ts, reply) = play_out(alloc, program, &mut self.store, &mut self.job, call, runs)?;
+        let (ts, reply) = play_out(alloc, program, &mut self.store, call, runs)?;
         let line = reply_text(alloc, ts, &reply)?;
         write_line(out, line)
     }
@@ -141,14 +132,10 @@ impl Stand {
         requires { module_view program.now.checked.tree ≡ module_of self.old }
         ensures program { OnOk result (module_of self.new ≡ module_of self.old) }
         ensures after { OnOk result (self.new.stage ≡ after (module_of self.old) self.old.stage (event_view event.now)) }
-        ensures done { OnOk result (Appends (K.held out.old) (K.held out.new) (with_feeds (output (module_of self.old) self.old.stage (event_view event.now)))) }
-        ensures part { OnErr result (AppendsPart (K.held out.old) (K.held out.new) (with_feeds (output (module_of self.old) self.old.stage (event_view event.now)))) }
+        ensures writes { Writes (with_feeds (output (module_of self.old) self.old.stage (event_view event.now)))
+            (K.held out.old) (K.held out.new) (K.faults out.old) (K.faults out.new) result }
         ensures runs { OnOk result (runs.new.count ≡ runs_after self.old.stage.history (event_view event.now) runs.old.count) }
         ensures tried { OnErr result (AtMostOne runs.old.count runs.new.count) }
-        ensures fault { IfErr result (λ e. (e ≡ PlayFault.Write) ⊎ (e ≡ PlayFault.Memory)) }
-        ensures write { result ≡ Err PlayFault.Write → Rose (K.faults out.old) (K.faults out.new) }
-        ensures kept { result ≢ Err PlayFault.Write → K.faults out.new ≡ K.faults out.old }
-        ensures later { K.faults out.old ≤ K.faults out.new }
     {
         match event {
             Event::Clock(now) => {

@@ -1,1 +1,5 @@
+pub mod KeptLaws
+pub mod LeftRuns
+pub mod LongerHistories
 pub mod TouchedMarks
+pub mod TouchedPlaces

@@ -3,7 +3,7 @@ use Rattle.std.proofs.Common.{◌≡◌, ℕ, suc, ◌+◌, Bool, false, true, L
 use Rattle.std.specs.Prelude.{slice_get}
 use Rattle.std.specs.Option.{option_or}
 use Rattle.cv_values.specs.declared.doc.Doc.{Doc}
-use Rattle.cv_keys.specs.Documents.{place}
+use Rattle.cv_keys.specs.Documents.{place, indexes_of}
 use Rattle.cv_keys.specs.KeyBytes.{place_key}
 use Rattle.cv_keys.specs.declared.interval.Interval.{Interval}
 use Rattle.cv_keys.specs.declared.schema.Index.{Index}
@@ -12,7 +12,7 @@ use Rattle.cv_keys.specs.declared.write.Write.{Write}
 use Rattle.cv_reads.specs.FirstTouch.{first_interval, first_touch_from, first_touch as first_mark}
 use Rattle.cv_reads.specs.declared.mark.Mark.{Mark}
 use Rattle.fn_tree.specs.History.{Entry}
-use Rattle.cv_store.specs.FirstTouch.{by_key, indexes_of, index_touch, doc_touch, write_touch, writes_touch, entries_touch}
+use Rattle.cv_store.specs.FirstTouch.{by_key, index_touch, doc_touch, write_touch, writes_touch, entries_touch, first_touch}
 use Rattle.cv_store.specs.Marks.{index_marks, doc_marks, write_marks, writes_marks, entry_marks, marks_by_entry}
 use Rattle.cv_store.specs.Tails.{joined}
 use Rattle.cv_store.specs.TouchLaws.{conflict_of, mark_touch, EntriesGoByMarks, HistoriesGoByMarks, AnswerTells, AnswersTell}
@@ -77,6 +77,7 @@ pub entries_go_by_marks : EntriesGoByMarks
 entries_go_by_marks schema reads ts e = writes_by_marks reads schema ts 0 e.writes
 
 pub histories_go_by_marks : HistoriesGoByMarks
+unfolding first_touch
 histories_go_by_marks schema reads h s = entries_by_marks reads schema s (drop s h)
 
 -- numbered from k on

@@ -1,7 +1,6 @@
 -- The cache and the first touch, worked out.
-use Rattle.std.specs.Prelude.{◌≡◌, ℕ, pos, true, false, List, [], ◌∷◌, length, Some, None, codes}
-use Rattle.cv_values.specs.Value.{int, null}
-use Rattle.cv_values.specs.declared.doc.Doc.{Doc}
+use Rattle.std.specs.Prelude.{◌≡◌, ℕ, pos, true, false, List, [], ◌∷◌, Some, None, codes}
+use Rattle.cv_values.specs.Value.{int}
 use Rattle.cv_keys.specs.Intervals.{in_bytes}
 use Rattle.cv_keys.specs.Places.{below, above, PlaceInterval}
 use Rattle.cv_keys.specs.declared.interval.Interval.{Interval}
@@ -9,14 +8,13 @@ use Rattle.cv_keys.specs.declared.schema.Index.{Index}
 use Rattle.cv_keys.specs.declared.schema.Schema.{Schema}
 use Rattle.cv_keys.specs.declared.write.Write.{Write}
 use Rattle.cv_reads.specs.declared.mark.Mark.{Mark}
-use Rattle.fn_tree.specs.Course.{Reply, gives}
+use Rattle.fn_tree.specs.Course.{gives}
 use Rattle.fn_tree.specs.ExampleDocuments.{id_of, numbered}
 use Rattle.fn_tree.specs.History.{Entry, History}
 use Rattle.fn_tree.specs.declared.stop.Query.{Query}
-use Rattle.cv_store.specs.Cache.{Cached, Cache, cache_entries, cached_at, used, with_cached, after_keep, untouched_by}
+use Rattle.cv_store.specs.Cache.{Cached, cache_entries, cached_at, used, with_cached, after_keep, untouched_by}
 use Rattle.cv_store.specs.FirstTouch.{first_touch, first_touch_places}
 use Rattle.cv_store.specs.Kept.{kept}
-use Rattle.cv_store.specs.Marks.{entry_marks}
 
 abbrev by_v : Index
 by_v = record { name = codes "by_v"; fields = codes "v" ∷ [] }

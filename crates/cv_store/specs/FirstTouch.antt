@@ -1,16 +1,15 @@
 -- The first touch of a history after a timestamp.
-use Rattle.std.specs.Prelude.{ℕ, ◌+◌, Bool, true, false, ◌&&◌, ◌==◌, List, [], ◌∷◌, drop, slice_get, Option, Some, None}
+use Rattle.std.specs.Prelude.{ℕ, ◌+◌, Bool, true, false, ◌&&◌, ◌==◌, List, [], ◌∷◌, drop, Option, Some, None}
 use Rattle.std.specs.List.{position_from}
 use Rattle.std.specs.Option.{option_or}
 use Rattle.cv_values.specs.declared.doc.Doc.{Doc}
-use Rattle.cv_keys.specs.Documents.{place}
+use Rattle.cv_keys.specs.Documents.{indexes_of, place}
 use Rattle.cv_keys.specs.Intervals.{contains}
 use Rattle.cv_keys.specs.KeyBytes.{place_key}
 use Rattle.cv_keys.specs.Places.{PlaceInterval, lies_in}
 use Rattle.cv_keys.specs.declared.interval.Interval.{Interval}
 use Rattle.cv_keys.specs.declared.schema.Index.{Index}
 use Rattle.cv_keys.specs.declared.schema.Schema.{Schema}
-use Rattle.cv_keys.specs.declared.schema.Table.{Table}
 use Rattle.cv_keys.specs.declared.write.Write.{Write}
 use Rattle.fn_tree.specs.History.{Entry, History}
 use Rattle.cv_store.specs.declared.conflict.Conflict.{Conflict}
@@ -26,14 +25,6 @@ by_key table index x d i = contains i table index (place_key (place d x))
 -- by its place
 abbrev pub by_place : Test PlaceInterval
 by_place table index x d i = (i.table == table) && (i.index == index) && lies_in (place d x) i
-
-abbrev pub indexes_in : Option Table → List Index
-indexes_in None = []
-indexes_in (Some t) = t.indexes
-
--- the indexes of a table, none where it isn't there
-abbrev pub indexes_of : Schema → ℕ → List Index
-indexes_of schema table = indexes_in (slice_get schema.tables table)
 
 -- in the indexes, numbered from k on, and for each in the ranges in order
 abbrev pub index_touch : {R : Type 0} → Test R → List R → (ts write : ℕ) → (fresh : Bool) → (table : ℕ) → Doc → (k : ℕ) → List Index → Option Conflict
@@ -65,10 +56,14 @@ entries_touch schema test reads ts (e ∷ h) = option_or (writes_touch schema te
 abbrev pub first_touch_by : {R : Type 0} → Test R → Schema → List R → History → (s : ℕ) → Option Conflict
 first_touch_by test schema reads h s = entries_touch schema test reads s (drop s h)
 
+-- that of an entry at a timestamp
+abbrev pub entry_touch : {R : Type 0} → Schema → Test R → List R → (ts : ℕ) → Entry → Option Conflict
+entry_touch schema test reads ts e = writes_touch schema test reads ts 0 e.writes
+
 -- the first entry after s, in it the first write, of it the old document before the new one, of that the first index, and then the first range in which the document's key lies
-abbrev pub first_touch : Schema → List Interval → History → (s : ℕ) → Option Conflict
+unfoldable pub first_touch : Schema → List Interval → History → (s : ℕ) → Option Conflict
 first_touch schema reads h s = first_touch_by by_key schema reads h s
 
 -- the same by places
-abbrev pub first_touch_places : Schema → List PlaceInterval → History → (s : ℕ) → Option Conflict
+unfoldable pub first_touch_places : Schema → List PlaceInterval → History → (s : ℕ) → Option Conflict
 first_touch_places schema reads h s = first_touch_by by_place schema reads h s

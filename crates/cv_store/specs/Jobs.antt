@@ -1,5 +1,5 @@
 -- What a job means, and what one step of it does.
-use Rattle.std.specs.Prelude.{◌≡◌, ◌⊎◌, ℕ, ◌+◌, ◌-◌, ◌^◌, nat_lt, if◌then◌else◌, List, length, Option, Some, None, MatchBool}
+use Rattle.std.specs.Prelude.{◌≡◌, ◌⊎◌, ℕ, ◌+◌, true, false, nat_lt, List, length, Option, Some, None, MatchBool}
 use Rattle.cv_keys.specs.declared.interval.Interval.{Interval}
 use Rattle.fn_tree.specs.History.{History, start_of, docs_at}
 use Rattle.fn_tree.specs.Run.{run}
@@ -9,6 +9,7 @@ use Rattle.fn_tree.specs.declared.entry.Reply.{Reply}
 use Rattle.fn_tree.specs.declared.stop.Query.{Query}
 use Rattle.cv_store.specs.Cache.{Cache, cached_at, used, after_keep}
 use Rattle.cv_store.specs.Stores.{Standing, schema_in, GoesOn, Reads, IsRunOf, Begins, Commits, cached}
+use Rattle.cv_store.specs.Turns.{one_more, after_begin, after_read, after_commit, AtMostOneTurn}
 use Rattle.cv_store.specs.declared.job.JobWent.{JobWent}
 use Rattle.cv_store.specs.declared.job.JobWent.TheVariants.{Moved, SentBack, Done}
 use Rattle.cv_store.specs.declared.proposal.Begun.{Begun}
@@ -16,6 +17,7 @@ use Rattle.cv_store.specs.declared.proposal.Begun.TheVariants as begun
 use Rattle.cv_store.specs.declared.proposal.Ended.{Ended}
 use Rattle.cv_store.specs.declared.proposal.Ended.TheVariants as ended
 use Rattle.cv_store.specs.declared.proposal.Proposal.{Proposal}
+use Rattle.cv_store.specs.declared.turns.Turns.{Turns}
 
 -- what a job means that isn't at a begin: the program and the call given there, the snapshot, the number of reads made, and what the last step's store had then seen
 pub record Under : Type 0 where
@@ -29,10 +31,6 @@ pub record Under : Type 0 where
 abbrev pub GoesOnOver : Option Under → Standing → Call → Type 0
 GoesOnOver None s call = Unit {0}
 GoesOnOver (Some u) s call = (s.program ≡ u.program) × GoesOn u.seen s.seen × (call ≡ u.call)
-
--- one run more, as far as it can be counted
-abbrev pub one_more : ℕ → ℕ
-one_more n = if nat_lt n (2 ^ 64 - 1) then n + 1 else n
 
 -- how many reads the run of the job's call makes
 abbrev pub reads_of : Standing → Under → ℕ
@@ -55,6 +53,7 @@ runs_begun (begun.Known ts reply) n = n
 pub record StepsBegin (s t : Standing) (call : Call) (after : Option Under) (runs runs' : ℕ) (went : JobWent) : Type 0 where
   pub begun : Begun
   pub store : Reads s t
+  pub turns : t.turns ≡ after_begin s.turns
   pub begins : Begins t call.session call.request begun
   pub under : after ≡ under_of t call begun
   pub counted : runs' ≡ runs_begun begun runs
@@ -63,6 +62,7 @@ pub record StepsBegin (s t : Standing) (call : Call) (after : Option Under) (run
 -- the step was a read
 pub record StepsRead (s t : Standing) (u : Under) (after : Option Under) (runs runs' : ℕ) (went : JobWent) : Type 0 where
   pub store : Reads s t
+  pub turns : t.turns ≡ after_read s.turns
   pub under : after ≡ Some (record u { reads = u.reads + 1; seen = t.seen })
   pub counted : runs' ≡ runs
   pub told : went ≡ Moved
@@ -81,6 +81,7 @@ pub record StepsCommit (s t : Standing) (u : Under) (after : Option Under) (runs
   pub call : proposal.call ≡ u.call
   pub snapshot : proposal.snapshot ≡ u.snapshot
   pub store : Commits s t proposal ended
+  pub turns : t.turns ≡ after_commit s.turns
   pub under : after ≡ None
   pub counted : runs' ≡ runs
   pub told : went ≡ ended_as proposal ended
@@ -90,6 +91,15 @@ abbrev pub Steps : (s t : Standing) → Call → (before after : Option Under) �
 Steps s t call None after runs runs' went = StepsBegin s t call after runs runs' went
 Steps s t call (Some u) after runs runs' went =
     MatchBool (nat_lt u.reads (reads_of s u)) (StepsRead s t u after runs runs' went) (StepsCommit s t u after runs runs' went)
+
+-- what the step that is due counts
+abbrev pub after_due : Standing → Option Under → Turns → Turns
+after_due s None turns = after_begin turns
+after_due s (Some u) turns = elim (nat_lt u.reads (reads_of s u)) [ true ↦ after_read turns | false ↦ after_commit turns ]
+
+-- at most the step that was due
+abbrev pub AtMostDue : (s t : Standing) → Option Under → Type 0
+AtMostDue s t before = AtMostOneTurn (after_due s before) s.turns t.turns
 
 -- at most one run was counted
 abbrev pub AtMostOne : (runs runs' : ℕ) → Type 0

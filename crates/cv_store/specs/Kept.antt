@@ -12,5 +12,5 @@ kept_after session request ts [] = None
 kept_after session request ts (e ∷ h) = cond (is_of session request e) (Some (ts + 1, e.reply)) (kept_after session request (ts + 1) h)
 
 -- the timestamp and the reply of the first entry of a session's request, if there is one
-abbrev pub kept : (session request : ℕ) → History → Option (ℕ × Reply)
+unfoldable pub kept : (session request : ℕ) → History → Option (ℕ × Reply)
 kept session request h = kept_after session request 0 h

@@ -1,10 +1,16 @@
 pub mod Cache
+pub mod Codes
 pub mod Examples
 pub mod FirstTouch
+pub mod HistoryLaws
 pub mod Jobs
 pub mod Kept
 pub mod Marks
+pub mod PlaceLaws
+pub mod Ranges
 pub mod Reads
+pub mod Sharing
 pub mod Stores
 pub mod Tails
 pub mod TouchLaws
+pub mod Turns

@@ -1,14 +1,13 @@
 -- The marks of entries.
 use Rattle.std.specs.Prelude.{ℕ, ◌+◌, Bool, true, false, List, [], ◌∷◌, ◌++◌, Option, Some, None}
 use Rattle.cv_values.specs.declared.doc.Doc.{Doc}
-use Rattle.cv_keys.specs.Documents.{place}
+use Rattle.cv_keys.specs.Documents.{place, indexes_of}
 use Rattle.cv_keys.specs.KeyBytes.{place_key}
 use Rattle.cv_keys.specs.declared.schema.Index.{Index}
 use Rattle.cv_keys.specs.declared.schema.Schema.{Schema}
 use Rattle.cv_keys.specs.declared.write.Write.{Write}
 use Rattle.cv_reads.specs.declared.mark.Mark.{Mark}
 use Rattle.fn_tree.specs.History.{Entry}
-use Rattle.cv_store.specs.FirstTouch.{indexes_of}
 
 -- the document's key in each of the indexes, numbered from k on
 abbrev pub index_marks : (ts write : ℕ) → (fresh : Bool) → (table : ℕ) → Doc → (k : ℕ) → List Index → List Mark

@@ -3,6 +3,7 @@ use Rattle.std.specs.Prelude.{◌≡◌, ◌⊎◌, ℕ, ◌≤◌, List, [], �
 use Rattle.cv_keys.specs.Intervals.{in_bytes}
 use Rattle.cv_keys.specs.declared.interval.Interval.{Interval}
 use Rattle.cv_keys.specs.declared.schema.Schema.{Schema}
+use Rattle.cv_values.specs.declared.doc.Doc.{Doc}
 use Rattle.fn_tree.specs.EntryViews.{reply_view}
 use Rattle.fn_tree.specs.History.{Entry, History, IsLegal, start_of, query_start, docs_at}
 use Rattle.fn_tree.specs.Run.{Run, run}
@@ -14,7 +15,8 @@ use Rattle.cv_store.specs.Cache.{Cached, Cache, cached_at, after_look, Shows, af
 use Rattle.cv_store.specs.FirstTouch.{first_touch}
 use Rattle.cv_store.specs.Kept.{kept}
 use Rattle.cv_store.specs.Marks.{entry_marks}
-use Rattle.cv_store.specs.Reads.{EndsInRange}
+use Rattle.cv_store.specs.Ranges.{AreInRange}
+use Rattle.cv_store.specs.Reads.{StoreRead, EndsInRange, read_from}
 use Rattle.cv_store.specs.declared.look.Look.{Look}
 use Rattle.cv_store.specs.declared.look.Look.TheVariants.{Hit, Miss}
 use Rattle.cv_store.specs.declared.proposal.Begun.{Begun}
@@ -22,21 +24,32 @@ use Rattle.cv_store.specs.declared.proposal.Begun.TheVariants as begun
 use Rattle.cv_store.specs.declared.proposal.Ended.{Ended}
 use Rattle.cv_store.specs.declared.proposal.Ended.TheVariants as ended
 use Rattle.cv_store.specs.declared.proposal.Proposal.{Proposal}
+use Rattle.cv_store.specs.declared.turns.Turns.{Turns}
 
 -- the name of what the store's log lies behind, as plain data
 abbrev pub Name : Type 0
 Name = List ℕ
 
--- the program's module, a name, the entries seen, the entries that this store appended, and its cache where that is told
+-- the program's module, a name, the entries seen, the entries that this store appended, its cache where that is told, and how many atomic steps it took
 pub record Standing : Type 0 where
   pub program : ModuleTree
   pub name : Name
   pub seen : History
   pub mine : History
   pub cache : Option Cache
+  pub turns : Turns
 
+-- the schema at a timestamp of a history: that of its module, whatever the entries are
+abbrev pub schema_at : ModuleTree → History → (ts : ℕ) → Schema
+schema_at m h ts = schema_of m.tables
+
+-- the schema at the end of what was seen
 abbrev pub schema_in : Standing → Schema
-schema_in s = schema_of s.program.tables
+schema_in s = schema_at s.program s.seen (length s.seen)
+
+-- what one read at a timestamp gives
+abbrev pub read_at : Standing → (ts : ℕ) → StoreRead → List Doc
+read_at s ts q = read_from (schema_at s.program s.seen ts) (docs_at s.seen ts) q
 
 -- a history goes on to another
 abbrev pub GoesOn : History → History → Type 0
@@ -48,12 +61,13 @@ StandIn [] h = Unit {0}
 StandIn (e ∷ es) [] = ⊥
 StandIn (e ∷ es) (f ∷ h) = ((e ≡ f) × StandIn es h) ⊎ StandIn (e ∷ es) h
 
--- a call extends a store: module and name stay, what was seen goes on and is legal, and the store's own entries are those before and these
+-- a call extends a store: module and name stay, what was seen goes on, is legal and in range, and the store's own entries are those before and these
 pub record Extends (s t : Standing) (own : History) : Type 0 where
   pub program : t.program ≡ s.program
   pub name : t.name ≡ s.name
   pub seen : GoesOn s.seen t.seen
   pub legal : IsLegal t.program t.seen
+  pub in_range : AreInRange (schema_in t) t.seen
   pub mine : t.mine ≡ s.mine ++ own
   pub stands : StandIn t.mine t.seen
 

@@ -1,6 +1,8 @@
 ghost use Rattle.std.specs.Prelude.{◌≡◌, ◌≤◌, [], length, None, is_none, IfOk, OnErr};
-ghost use Rattle.cv_store.specs.Jobs.{GoesOnOver, Steps, AtMostOne, RunsUnder, AnswersIn};
+ghost use Rattle.cv_store.specs.Jobs.{GoesOnOver, Steps, AtMostDue, AtMostOne, RunsUnder, AnswersIn};
 ghost use Rattle.cv_store.specs.Stores.{Extends, Reads, IsAnswer, query_run};
+ghost use Rattle.cv_store.specs.Turns.{OnlyAnswers};
+ghost use Rattle.fn_tree.specs.SyntaxViews.{module_view};
 
 use crate::conflict::Conflict;
 use crate::runs::Runs;
@@ -26,15 +28,15 @@ pub enum JobWent {
 ///
 /// A job that isn't at a begin means its call, its snapshot, the number of reads that it has made, and
 /// what its last step's store had then seen.
-pub trait Job {
+pub trait Job: Drop {
     ghost use Rattle.std.specs.Prelude.{Option};
-    ghost use Rattle.fn_tree.specs.SyntaxTree.{ModuleTree};
+    ghost use Rattle.fn_tree.specs.declared.syntax.Module.{Module};
     ghost use Rattle.cv_store.specs.Jobs.{Under};
 
     type Prog;
 
-    /// The module that a program means.
-    ghost program: { Self.Prog → ModuleTree };
+    /// The module of a program.
+    ghost tree: { Self.Prog → Module };
 
     ghost under: { Self → Option Under };
 
@@ -56,10 +58,11 @@ pub trait Job {
         call: &Call,
         runs: &mut Runs,
     ) -> Result<JobWent, Memory>
-        requires program { program prog.now ≡ (S.stands store.old).program }
+        requires program { module_view (tree prog.now) ≡ (S.stands store.old).program }
         requires over { GoesOnOver (under self.old) (S.stands store.old) call.now }
         ensures ok { IfOk result (λ went. Steps (S.stands store.old) (S.stands store.new) call.entry.now (under self.old) (under self.new) runs.old.count runs.new.count went) }
         ensures store { OnErr result (Reads (S.stands store.old) (S.stands store.new)) }
+        ensures turns { OnErr result (AtMostDue (S.stands store.old) (S.stands store.new) (under self.old)) }
         ensures under { OnErr result (under self.new ≡ None) }
         ensures runs { OnErr result (RunsUnder (under self.old) runs.old.count runs.new.count) };
 
@@ -74,10 +77,11 @@ pub trait Job {
         ts: u64,
         runs: &mut Runs,
     ) -> Result<(Reply, ReadSet), Memory>
-        requires program { program prog.now ≡ (S.stands store.old).program }
+        requires program { module_view (tree prog.now) ≡ (S.stands store.old).program }
         requires seen { ts ≤ length (S.stands store.old).seen }
         ensures under { under self.new ≡ under self.old }
         ensures store { Extends (S.stands store.old) (S.stands store.new) [] }
+        ensures turns { OnlyAnswers (S.stands store.old).turns (S.stands store.new).turns }
         ensures ok { IfOk result (λ r. IsAnswer (query_run (S.stands store.old) query.now ts) r.0 r.1) }
         ensures runs { IfOk result (λ r. AnswersIn (S.stands store.old) (S.stands store.new) (S.stands store.old).cache query.now ts runs.old.count runs.new.count r.0 r.1) }
         ensures cache { OnErr result ((S.stands store.new).cache ≡ (S.stands store.old).cache) }

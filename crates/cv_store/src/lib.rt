@@ -12,16 +12,25 @@ mod laws;
 mod look;
 mod proposal;
 mod runs;
+mod seen;
+mod shares;
 mod store;
 mod tail;
+mod turns;
 
 pub use conflict::Conflict;
 pub use fn_tree::{Call, Entry, Query, Reply};
 pub use has_history::HasHistory;
 pub use job::{Job, JobWent};
-pub use laws::{touches_go_by_marks, worked_stores};
+pub use laws::{
+    kept_goes_on, same_replies, tails_leave_runs, touch_by_places, touches_go_by_marks,
+    touches_go_on, worked_stores,
+};
 pub use look::Look;
 pub use proposal::{Begun, Ended, Proposal, ReadReq};
 pub use runs::Runs;
+pub use seen::{Meant, Seen};
+pub use shares::Shares;
 pub use store::Store;
 pub use tail::Tail;
+pub use turns::Turns;

@@ -1,5 +1,5 @@
 -- A checked module has room for numbers of its tables and indexes.
-use Rattle.std.proofs.Common.{◌≡◌, ◌≤◌, ◌<◌, ◌+◌, ◌^◌, ℕ, zero, suc, Bool, true, false, List, [], ◌∷◌, length, map, refl, subst, arith}
+use Rattle.std.proofs.Common.{◌≡◌, ◌≤◌, ◌<◌, ◌+◌, ℕ, zero, suc, Bool, true, false, List, [], ◌∷◌, length, map, refl, subst, arith}
 use Rattle.std.specs.Prelude.{Option, Some, None, nat_le, slice_get}
 use Rattle.std.proofs.lemmas.List.{length-map}
 use Rattle.std.proofs.lemmas.Bool.Decides.{nat_tests}
@@ -48,18 +48,18 @@ few-tables seen count (t ∷ ts) w h =
     omega (arith, more)
 
 -- the number of a table's indexes, with the two that each table has
-indexes-fit : (t : TableTree) → indexes_fault [] 0 t.indexes ≡ None → length (declared_table t).indexes ≤ 2 ^ 16
+indexes-fit : (t : TableTree) → indexes_fault [] 0 t.indexes ≡ None → length (declared_table t).indexes ≤ 34
 indexes-fit t h =
     let few = few-indexes [] 0 t.indexes (omega arith) h in
     let same : length (map declared_index t.indexes) ≡ length t.indexes = length-map t.indexes declared_index in
     omega (arith, few, same)
 
-each-fits : (seen : Names) (count : ℕ) (ts : List TableTree) → tables_fault seen count ts ≡ None → (n : ℕ) (u : Table) → slice_get (map declared_table ts) n ≡ Some u → length u.indexes ≤ 2 ^ 16
+each-fits : (seen : Names) (count : ℕ) (ts : List TableTree) → tables_fault seen count ts ≡ None → (n : ℕ) (u : Table) → slice_get (map declared_table ts) n ≡ Some u → length u.indexes ≤ 34
 each-fits seen count [] h n u there = cc
 each-fits seen count (t ∷ ts) h zero u there =
     let e = none-before (table_decl_fault seen count t) (tables_fault (with_name seen t.name.text) (count + 1) ts) h in
     let is : declared_table t ≡ u = cc in
-    subst (λ (v : Table). length v.indexes ≤ 2 ^ 16) is (indexes-fit t (none-before _ (indexes_fault [] 0 t.indexes) e.0).1)
+    subst (λ (v : Table). length v.indexes ≤ 34) is (indexes-fit t (none-before _ (indexes_fault [] 0 t.indexes) e.0).1)
 each-fits seen count (t ∷ ts) h (suc n) u there =
     each-fits (with_name seen t.name.text) (count + 1) ts (none-before (table_decl_fault seen count t) (tables_fault (with_name seen t.name.text) (count + 1) ts) h).1 n u there
 

@@ -1,5 +1,5 @@
 //! What can be named at a place of a function.
-ghost use Rattle.std.specs.Prelude.{◌≡◌, ◌≤◌, ◌^◌, ◌∷◌, ◌++◌, [], OnOk, length, take, map};
+ghost use Rattle.std.specs.Prelude.{◌≡◌, ◌≤◌, ◌∷◌, ◌++◌, [], OnOk, length, take, map};
 ghost use Rattle.fn_check.specs.Rooms.{HasRoom};
 ghost use Rattle.fn_tree.specs.Names.{at_name, table_number, index_number};
 ghost use Rattle.fn_tree.specs.Schemas.{text_of};
@@ -167,7 +167,7 @@ fn table_number(schema: &Schema, name: &Text) -> Option<u16>
 
 #[tactic(auto, using(crate::proofs::FirstPlaces::first_place))]
 fn index_number(table: &Table, name: &Text) -> Option<u16>
-    requires { length table.now.indexes ≤ 2 ^ 16 }
+    requires { length table.now.indexes ≤ 34 }
     ensures { result ≡ index_number table.now name.now }
 {
     for (number, index) in table.indexes.as_slice().iter().enumerate() {

@@ -1,6 +1,7 @@
 //! Laws of what is loaded, each a function with nothing to do.
 ghost use Rattle.fn_load.specs.Loading.{AtMostOneAccepted, AcceptedHaveNoCause, AtMostOneCause};
 
+use crate::program::Program;
 use fn_syntax::one_fault;
 use fn_tree::at_most_one_module;
 
@@ -13,4 +14,12 @@ pub fn one_answer()
 {
     at_most_one_module();
     one_fault();
+}
+
+fn shared<T: Send + Sync>(_value: &T) {}
+
+/// Programs may be sent to another thread and be shared between threads: this function is checked, and does
+/// nothing.
+pub fn programs_are_shared(program: &Program) {
+    shared(program);
 }

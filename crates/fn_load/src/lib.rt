@@ -9,6 +9,6 @@ mod program;
 mod tests;
 
 pub use fault::LoadFault;
-pub use laws::one_answer;
+pub use laws::{one_answer, programs_are_shared};
 pub use loader::load;
 pub use program::Program;

@@ -14,7 +14,7 @@ use Rattle.cv_values.specs.declared.val.Val.TheVariants.{Str}
 use Rattle.cv_keys.specs.Intervals.{in_bytes}
 use Rattle.cv_keys.specs.Places.{PlaceInterval}
 use Rattle.cv_keys.specs.declared.interval.Interval.{Interval}
-use Rattle.cv_keys.specs.Documents.{index_at}
+use Rattle.cv_keys.specs.Documents.{index_at, indexes_in}
 use Rattle.cv_keys.specs.declared.schema.Index.{Index}
 use Rattle.cv_keys.specs.declared.schema.Schema.{Schema}
 use Rattle.cv_keys.specs.declared.schema.Table.{Table}
@@ -257,7 +257,7 @@ interval-there schema table index bounds t n found r table_is found_is index_is 
     go : ((order : Index) × (n < length found.indexes) × (slice_get found.indexes n ≡ Some order) × (get_or found.indexes n order ≡ order)) ⊎ ((length found.indexes ≤ n) × (slice_get found.indexes n ≡ None))
         → IfOk r (λ i. StandsFor (interval_of schema table index bounds) i)
     go (inl w) =
-        let there : index_at schema t n ≡ Some w.0 = ap (option_and_then (λ (x : Table). slice_get x.indexes n)) (sym found_is) ∙ w.2 in
+        let there : index_at schema t n ≡ Some w.0 = ap (λ (o : Option Table). slice_get (indexes_in o) n) (sym found_is) ∙ w.2 in
         let is : bounded_in w.0 t n bounds ≡ interval_of schema table index bounds =
         sym (ap (of_table schema index bounds) (sym table_is) ∙ ap (of_found index bounds t) (sym found_is) ∙ ap (of_index bounds t found) (sym index_is) ∙ ap (of_order bounds t n) w.2) in
         subst (λ (o : Option PlaceInterval). IfOk r (λ i. StandsFor o i)) is (by_order w.0 there)

@@ -8,7 +8,7 @@ use Rattle.cv_values.specs.Value.{Value, null, int, boolean, string, array, obje
 use Rattle.cv_values.specs.declared.check.ValueFault.{ValueFault}
 use Rattle.cv_values.specs.declared.doc.Doc.{Doc}
 use Rattle.cv_values.specs.declared.ids.DocId.{DocId}
-use Rattle.cv_keys.specs.Documents.{index_at}
+use Rattle.cv_keys.specs.Documents.{index_at, indexes_in}
 use Rattle.cv_keys.specs.Places.{PlaceInterval}
 use Rattle.cv_keys.specs.declared.schema.Index.{Index}
 use Rattle.cv_keys.specs.declared.schema.Schema.{Schema}
@@ -130,7 +130,7 @@ interval_there schema table index bounds i e = in_table (table_number schema tab
             in_index : (z : Option ℕ) → option_and_then (λ n. option_and_then (λ (order : Index). if has_fields order bounds then Some (bounded t n bounds) else None)
                 (slice_get found.indexes n)) z ≡ Some i → IsSome (index_at schema i.table i.index)
             in_index None r = cc
-            in_index (Some n) r = order_at t n (slice_get found.indexes n) (ap (option_and_then (λ (x : Table). slice_get x.indexes n)) at) r
+            in_index (Some n) r = order_at t n (slice_get found.indexes n) (ap (λ (o : Option Table). slice_get (indexes_in o) n) at) r
 
 module _ (site : Site) where
   pub keeps_spend : Keeps site.schema (spend site)

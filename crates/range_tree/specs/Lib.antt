@@ -2,6 +2,7 @@ pub mod Points
 pub mod Ranges
 pub mod Avl
 pub mod Best
+pub mod Members
 pub mod Ownership
 pub mod Search
 pub mod Shape

@@ -19,7 +19,7 @@ mod tests;
 mod tree;
 mod visit;
 
-pub use laws::nodes_and_trees_cross;
+pub use laws::{lists_tell, nodes_and_trees_cross};
 pub use nodes::Steps;
 pub use tree::{RangeNode, RangeTree};
 pub use visit::Visit;

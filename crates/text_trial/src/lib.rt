@@ -4,6 +4,8 @@
 #[cfg(test)]
 mod check_tests;
 #[cfg(test)]
+mod first_fault_tests;
+#[cfg(test)]
 mod grammar_tests;
 #[cfg(test)]
 mod parse_tests;

@@ -21,7 +21,7 @@ returns-in-Ok-None-clause-answer g c =
     let script = script_view c.in-Ok-read_script.script in
     let text = script_text tree script in
     let play : IsPlay c.args.input.now script.bad text = is_play c.args.input.now c.in-Ok.parts.module.now f.0 (lines_of c.in-Ok.parts.script.now) f.1 f.2 c.in-Ok.parts.line tree script c.play_script.ensures.log f.3 c.in-Ok-load.ensures.good c.in-Ok-read_script.ensures c.requires in
-    (text, subst (λ (b : Option ℕ). IsPlay c.args.input.now b text) (sym c.in-Ok-None.ensures.bad ∙ c.in-Ok-None.field-0-is) play, c.in-Ok-None.ensures.done)
+    (text, subst (λ (b : Option ℕ). IsPlay c.args.input.now b text) (sym c.in-Ok-None.ensures.bad ∙ c.in-Ok-None.field-0-is) play, c.in-Ok-None.ensures.writes.done)
 
 pub returns-in-Ok-Some-clause-answer : goal.returns-in-Ok-Some-clause-answer
 returns-in-Ok-Some-clause-answer g c =
@@ -30,7 +30,7 @@ returns-in-Ok-Some-clause-answer g c =
     let script = script_view c.in-Ok-read_script.script in
     let text = script_text tree script in
     let play : IsPlay c.args.input.now script.bad text = is_play c.args.input.now c.in-Ok.parts.module.now f.0 (lines_of c.in-Ok.parts.script.now) f.1 f.2 c.in-Ok.parts.line tree script c.play_script.ensures.log f.3 c.in-Ok-load.ensures.good c.in-Ok-read_script.ensures c.requires in
-    inr (text, subst (λ (b : Option ℕ). IsPlay c.args.input.now b text) (sym c.in-Ok-Some.ensures.bad ∙ c.in-Ok-Some.field-0-is) play, c.in-Ok-Some.ensures.done)
+    inr (text, subst (λ (b : Option ℕ). IsPlay c.args.input.now b text) (sym c.in-Ok-Some.ensures.bad ∙ c.in-Ok-Some.field-0-is) play, c.in-Ok-Some.ensures.writes.done)
 
 pub returns-in-Err-Write-clause-answer : goal.returns-in-Err-Write-clause-answer
 returns-in-Err-Write-clause-answer g c =
@@ -39,7 +39,7 @@ returns-in-Err-Write-clause-answer g c =
     let script = script_view c.in-Ok-read_script.script in
     let text = script_text tree script in
     let play : IsPlay c.args.input.now script.bad text = is_play c.args.input.now c.in-Ok.parts.module.now f.0 (lines_of c.in-Ok.parts.script.now) f.1 f.2 c.in-Ok.parts.line tree script c.play_script.ensures.log f.3 c.in-Ok-load.ensures.good c.in-Ok-read_script.ensures c.requires in
-    (script.bad, text, play, c.in-Err-Write.ensures.part)
+    (script.bad, text, play, c.in-Err-Write.ensures.writes.part)
 
 pub returns-in-Err-Memory-clause-answer : goal.returns-in-Err-Memory-clause-answer
 returns-in-Err-Memory-clause-answer g c =
@@ -48,4 +48,4 @@ returns-in-Err-Memory-clause-answer g c =
     let script = script_view c.in-Ok-read_script.script in
     let text = script_text tree script in
     let play : IsPlay c.args.input.now script.bad text = is_play c.args.input.now c.in-Ok.parts.module.now f.0 (lines_of c.in-Ok.parts.script.now) f.1 f.2 c.in-Ok.parts.line tree script c.play_script.ensures.log f.3 c.in-Ok-load.ensures.good c.in-Ok-read_script.ensures c.requires in
-    inr (script.bad, text, play, c.in-Err-Memory.ensures.part)
+    inr (script.bad, text, play, c.in-Err-Memory.ensures.writes.part)

@@ -1,5 +1,6 @@
 use Rattle.std.proofs.Common.{◌≡◌, ◌++◌, drop}
-use Rattle.cv_core.specs.Changes.{changes_in, DocsInRange}
+use Rattle.cv_store.specs.Ranges.{DocsInRange}
+use Rattle.cv_core.specs.Changes.{changes_in}
 use Rattle.cv_core.proofs.change.push_in.Given as goal
 
 -- with those of the rest these are all

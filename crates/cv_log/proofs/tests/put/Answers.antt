@@ -1,12 +1,11 @@
 use Rattle.std.proofs.Common.{◌≡◌, ℕ, ◌+◌, List, [], ◌∷◌, ◌++◌, true, length, Some, None, sym, ap, ◌∙◌}
 use Rattle.cv_values.specs.declared.doc.Doc.{Doc}
 use Rattle.cv_values.specs.declared.ids.DocId.{DocId}
-use Rattle.cv_keys.specs.Documents.{place}
+use Rattle.cv_keys.specs.Documents.{place, indexes_of}
 use Rattle.cv_keys.specs.KeyBytes.{place_key}
 use Rattle.cv_keys.specs.declared.schema.Index.{Index}
 use Rattle.cv_keys.specs.declared.schema.Schema.{Schema}
 use Rattle.cv_reads.specs.declared.mark.Mark.{Mark}
-use Rattle.cv_store.specs.FirstTouch.{indexes_of}
 use Rattle.cv_store.specs.Marks.{index_marks, writes_marks}
 use Rattle.cv_log.proofs.Appended.{kept_none}
 use Rattle.cv_log.proofs.tests.put.Goals as goal

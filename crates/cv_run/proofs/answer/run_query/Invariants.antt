@@ -1,7 +1,7 @@
 use Rattle.std.proofs.Common.{◌≡◌, ◌-◌, length}
 use Rattle.cv_run.specs.Pauses.{Pauses}
-use Rattle.cv_store.specs.Jobs.{one_more}
 use Rattle.cv_store.specs.Stores.{Reads, query_run}
+use Rattle.cv_store.specs.Turns.{one_more, OnlyAnswers}
 use Rattle.fn_tree.specs.History.{query_start, docs_at}
 use Rattle.cv_run.proofs.answer.run_query.Given as goal
 
@@ -9,9 +9,12 @@ use Rattle.cv_run.proofs.answer.run_query.Given as goal
 abbrev pub invariant-loop-pause : goal.invariant-loop-pause
 invariant-loop-pause g l =
     let store = g.S.Store.stands l.fn.store in
-    Reads store (g.S.Store.stands l.store)
-    × Pauses l.program.code store.program (query_start l.query.udf l.query.args) (docs_at store.seen l.ts) l.machine l.tx l.pause
-    × (l.runs.count ≡ one_more l.fn.runs.count)
+    record {
+      reads : Reads store (g.S.Store.stands l.store);
+      pauses : Pauses l.program.code store.program (query_start l.query.udf l.query.args) (docs_at store.seen l.ts) l.machine l.tx l.pause;
+      runs : l.runs.count ≡ one_more l.fn.runs.count;
+      turns : OnlyAnswers store.turns (g.S.Store.stands l.store).turns;
+    }
 
 -- how many reads the run still makes
 abbrev pub decreases-loop-pause : goal.decreases-loop-pause

@@ -4,6 +4,7 @@ use Rattle.std.specs.Fmt.{digits}
 use Rattle.std.specs.Str.{is_utf8, chars}
 use Rattle.std.specs.Str.Lossy.{utf8_valid_len}
 use Rattle.json.specs.Print.{escape_byte}
+use Rattle.cv_store.specs.Kept.{kept}
 use Rattle.cv_stand.proofs.laws.worked_plays.Goals as goal
 
 pub returns-clause-moments : goal.returns-clause-moments
@@ -14,5 +15,5 @@ unfolding utf8_valid_len is_utf8 chars encode_utf8
 returns-clause-lines c = (refl, refl, refl, refl, refl, refl, refl, refl, refl)
 
 pub returns-clause-play : goal.returns-clause-play
-unfolding digits escape_byte
+unfolding digits escape_byte kept
 returns-clause-play c = (refl, refl, refl, refl, refl, refl, refl)

@@ -5,5 +5,6 @@ use Rattle.cv_core.proofs.solo.SoloStore.new.Goals as goal
 
 pub returns : goal.returns
 returns c =
-    ap (λ n. standing (n ∷ []) (drop n c.args.core.log) c.args.core) c.len-start.ensures.len
-    ∙ ap (λ h. standing (length c.args.core.log ∷ []) h c.args.core) (drop_whole c.args.core.log)
+    ap (λ n. standing (n ∷ []) (drop n c.args.core.log) c.none.result c.args.core) c.len-start.ensures.len
+    ∙ ap (λ h. standing (length c.args.core.log ∷ []) h c.none.result c.args.core) (drop_whole c.args.core.log)
+    ∙ ap (λ t. standing (length c.args.core.log ∷ []) [] t c.args.core) c.none.ensures

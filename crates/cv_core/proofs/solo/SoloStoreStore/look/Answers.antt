@@ -1,8 +1,13 @@
-use Rattle.std.proofs.Common.{ap}
-use Rattle.cv_core.specs.Cores.{program_of}
-use Rattle.cv_core.proofs.Stood.{solo_reads}
+use Rattle.cv_store.specs.Turns.{after_look}
+use Rattle.cv_core.proofs.Stood.{solo_turn, solo_reads}
 use Rattle.cv_core.proofs.solo.SoloStoreStore.look.Goals as goal
 
 pub returns-clause-store : goal.returns-clause-store
 returns-clause-store c =
-    (solo_reads c.args.self.now c.self.inside.core c.look.new.self c.self.inside.start c.self.view_is c.self.invariant (ap program_of c.look.ensures.same) (ap (λ s. s.log) c.look.ensures.same) c.look.ensures.legal).extends
+    let i = c.self.inside in
+    (solo_reads c.args.self.now i.core i.start i.turns c.self.view_is c.self.invariant c.look.new.self c.count_look.new.self c.look.ensures.same c.look.ensures.well).extends
+
+pub returns-clause-turn : goal.returns-clause-turn
+returns-clause-turn c =
+    let i = c.self.inside in
+    solo_turn c.args.self.now i.core i.start i.turns c.self.view_is after_look c.count_look.new.self c.look.result c.count_look.ensures

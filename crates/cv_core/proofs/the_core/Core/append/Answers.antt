@@ -44,12 +44,3 @@ invariant_of-self c =
     let may = may_of s c.args.p c.args.room (rw (← c.self.view_is) at c.requires.run) (rw (← c.self.view_is) at c.requires.new) (rw (← c.self.view_is) at c.requires.untouched) room in
     room_core i.checked.tree i.log i.rows c.args.p c.args.room c.self.invariant may room (c.len-ts.result + 1) (ap (λ n. n + 1) c.len-ts.ensures.len)
     c.append.new.self c.add.new.self c.append.ensures.entries c.append.ensures.marks c.add.ensures.docs c.add.ensures.shape c.add.ensures.rows
-
-pub returns-clause-legal : goal.returns-clause-legal
-returns-clause-legal c =
-    let i = c.self.inside in
-    let s = state_of i.checked.tree i.log i.rows in
-    let room = rw (← c.self.view_is) at c.requires.room in
-    let may = may_of s c.args.p c.args.room (rw (← c.self.view_is) at c.requires.run) (rw (← c.self.view_is) at c.requires.new) (rw (← c.self.view_is) at c.requires.untouched) room in
-    (room_core i.checked.tree i.log i.rows c.args.p c.args.room c.self.invariant may room (c.len-ts.result + 1) (ap (λ n. n + 1) c.len-ts.ensures.len)
-    c.append.new.self c.add.new.self c.append.ensures.entries c.append.ensures.marks c.add.ensures.docs c.add.ensures.shape c.add.ensures.rows).legal

@@ -1,5 +1,5 @@
 use Rattle.std.proofs.Common.{Some, None, refl, sym}
-use Rattle.cv_core.proofs.Committing.{legal_of, touch_told}
+use Rattle.cv_core.proofs.Committing.{touch_told}
 use Rattle.cv_core.proofs.the_core.Core.end.Goals as goal
 
 pub append-requires-clause-untouched : goal.append-requires-clause-untouched
@@ -11,6 +11,5 @@ returns-in-Some c =
     let i = c.self.inside in
     record {
       program = refl;
-      legal = legal_of i.checked.tree i.log i.rows c.args.self.now c.self.invariant c.self.view_is;
       ok = (refl, c.requires.new, sym (touch_told i.checked.tree i.log i.rows c.args.self.now c.args.p (Some c.in-Some.conflict) c.self.invariant c.self.view_is c.in-Some.ensures));
     }

@@ -10,8 +10,8 @@ use Rattle.cv_core.specs.Versioned.{entries_at}
 use Rattle.cv_core.proofs.CoreReads.{if_ok, get_reads}
 use Rattle.cv_core.proofs.the_core.Core.get.Goals as goal
 
-pub returns-clause-ok : goal.returns-clause-ok
-returns-clause-ok c =
+pub returns : goal.returns
+returns c =
     let v = c.self.inside.rows in let log = c.self.inside.log in let ts = c.args.ts in let id = c.args.id.now in
     let seen : ts ≤ length log.entries = rw (← c.self.view_is) at c.requires in
     if_ok (λ ds. ds.items ≡ scanned v.docs ts c.in_ok-i.i false 1 18446744073709551615 (entries_at c.in_ok-i.i.table c.in_ok-i.i.index v.tables))

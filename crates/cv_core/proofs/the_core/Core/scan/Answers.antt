@@ -11,8 +11,8 @@ use Rattle.cv_core.specs.Versioned.{entries_at}
 use Rattle.cv_core.proofs.CoreReads.{if_ok, scan_reads}
 use Rattle.cv_core.proofs.the_core.Core.scan.Goals as goal
 
-pub returns-clause-ok : goal.returns-clause-ok
-returns-clause-ok c = λ p same lo hi.
+pub returns : goal.returns
+returns c = λ p same lo hi.
     let v = c.self.inside.rows in let log = c.self.inside.log in let ts = c.args.ts in
     let seen : ts ≤ length log.entries = rw (← c.self.view_is) at c.requires.seen in
     let there = rw (← c.self.view_is, same) at c.requires.readable in

@@ -4,13 +4,9 @@ use Rattle.fn_tree.specs.SyntaxViews.{module_view}
 use Rattle.cv_store.specs.Tails.{tail_from}
 use Rattle.cv_core.specs.Cores.{State, schema_in}
 use Rattle.cv_core.specs.Tailing.{tail_in}
-use Rattle.cv_core.proofs.Committing.{legal_of}
 use Rattle.cv_core.proofs.CoreReads.{if_ok}
 use Rattle.cv_core.proofs.Tailed.{tail_is}
 use Rattle.cv_core.proofs.the_core.Core.tail.Goals as goal
-
-pub returns-clause-legal : goal.returns-clause-legal
-returns-clause-legal c = legal_of c.self.inside.checked.tree c.self.inside.log c.self.inside.rows c.args.self.now c.self.invariant c.self.view_is
 
 pub returns-clause-ok : goal.returns-clause-ok
 returns-clause-ok c =
