@@ -1,0 +1,11 @@
+pub mod Answers
+pub mod Closing
+pub mod Endings
+pub mod Growing
+pub mod Histories
+pub mod Kept
+pub mod QuerySets
+pub mod Replies
+pub mod SentBacks
+pub mod Sparing
+pub mod Steps
