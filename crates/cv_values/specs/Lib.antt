@@ -4,6 +4,7 @@ pub mod Equality
 pub mod Hashes
 pub mod IdLaws
 pub mod Ids
+pub mod Measures
 pub mod Nesting
 pub mod Order
 pub mod OrderLaws

@@ -1,10 +1,9 @@
-ghost use Rattle.std.specs.Prelude.{◌≡◌, map, true, false};
-ghost use Rattle.cv_values.specs.Sizes.{checked, has_many, has_bad_name, values_many, members_many, values_bad_name, members_bad_name, is_bad_name};
+ghost use Rattle.std.specs.Prelude.{◌≡◌, true, false};
+ghost use Rattle.cv_values.specs.Sizes.{checked, has_many, has_bad_name, is_bad_name};
 ghost use Rattle.cv_values.specs.Trees.{tree};
-ghost use Rattle.cv_values.specs.Value.{values_of, members_of, object};
+ghost use Rattle.cv_values.specs.Value.{members_of, object};
 
 use crate::sizes::{depth_of, depth_of_fields, size_of, size_of_fields};
-use crate::text::Text;
 use crate::val::{Fields, Val};
 use thiserror::Error;
 
@@ -38,7 +37,7 @@ pub const MAX_ITEMS: usize = 8192;
 pub const MAX_NAMES: usize = 1024;
 
 /// Refuses a value by the first of the faults, in the order in which they are declared, each over
-/// the whole value. It goes over the value once for each fault.
+/// the whole value. Constant time.
 pub fn check_value(v: &Val) -> Result<(), ValueFault>
     ensures { result ≡ checked false (tree v.now) }
 {
@@ -57,7 +56,8 @@ pub fn check_value(v: &Val) -> Result<(), ValueFault>
     Ok(())
 }
 
-/// The same of the object of these fields, in which a name that begins with `_` is bad too.
+/// The same of the object of these fields, in which a name that begins with `_` is bad too. Constant
+/// time.
 pub fn check_fields(f: &Fields) -> Result<(), ValueFault>
     ensures { result ≡ checked true (object (members_of f.now)) }
 {
@@ -67,7 +67,7 @@ pub fn check_fields(f: &Fields) -> Result<(), ValueFault>
     if fields_have_many(f) {
         return Err(ValueFault::TooMany);
     }
-    if fields_have_bad_name(true, f) {
+    if f.measure().bad_stored {
         return Err(ValueFault::BadName);
     }
     if size_of_fields(f) > MAX_SIZE - 2 {
@@ -76,87 +76,35 @@ pub fn check_fields(f: &Fields) -> Result<(), ValueFault>
     Ok(())
 }
 
-/// Whether an array anywhere in the value has over 8,192 items, or an object over 1,024 names. It
-/// goes over the whole value.
-#[cycle(has_many)]
+/// Whether an array anywhere in the value has over 8,192 items, or an object over 1,024 names.
+/// Constant time.
 #[tactic(auto, using(crate::proofs::Lens::values_len_is))]
 pub fn has_many(v: &Val) -> bool
     ensures { result ≡ has_many (tree v.now) }
 {
     match v {
-        Val::Arr(items) => {
-            items.as_slice().len() > MAX_ITEMS || values_have_many(items.as_slice())
-        }
+        Val::Arr(items) => items.as_slice().len() > MAX_ITEMS || items.measure().many,
         Val::Obj(fields) => fields_have_many(fields),
         _ => false,
     }
 }
 
-#[cycle(has_many)]
-fn values_have_many(items: &[Val]) -> bool
-    ensures { result ≡ values_many (values_of (map tree items.now)) }
-{
-    for item in items {
-        if has_many(item) {
-            return true;
-        }
-    }
-    false
-}
-
-#[cycle(has_many)]
 #[tactic(auto, using(crate::proofs::Lens::members_len_is))]
 fn fields_have_many(fields: &Fields) -> bool
     ensures { result ≡ has_many (object (members_of fields.now)) }
 {
-    fields.len() > MAX_NAMES || members_have_many(fields)
+    fields.len() > MAX_NAMES || fields.measure().many
 }
 
-#[cycle(has_many)]
-fn members_have_many(fields: &Fields) -> bool
-    ensures { result ≡ members_many (members_of fields.now) }
-{
-    for (_name, v) in fields.as_map() {
-        if has_many(v) {
-            return true;
-        }
-    }
-    false
-}
-
-#[cycle(has_bad_name)]
-fn has_bad_name(stored: bool, v: &Val) -> bool
+/// Whether a name anywhere in the value is bad. Constant time.
+pub(crate) fn has_bad_name(stored: bool, v: &Val) -> bool
     ensures { result ≡ has_bad_name stored (tree v.now) }
 {
     match v {
-        Val::Arr(items) => values_have_bad_name(stored, items.as_slice()),
-        Val::Obj(fields) => fields_have_bad_name(stored, fields),
+        Val::Arr(items) => items.measure().has_bad_name(stored),
+        Val::Obj(fields) => fields.measure().has_bad_name(stored),
         _ => false,
     }
-}
-
-#[cycle(has_bad_name)]
-fn values_have_bad_name(stored: bool, items: &[Val]) -> bool
-    ensures { result ≡ values_bad_name stored (values_of (map tree items.now)) }
-{
-    for item in items {
-        if has_bad_name(stored, item) {
-            return true;
-        }
-    }
-    false
-}
-
-#[cycle(has_bad_name)]
-fn fields_have_bad_name(stored: bool, fields: &Fields) -> bool
-    ensures { result ≡ members_bad_name stored (members_of fields.now) }
-{
-    for (name, v) in fields.as_map() {
-        if is_bad_name(stored, name.as_str()) || has_bad_name(stored, v) {
-            return true;
-        }
-    }
-    false
 }
 
 /// Whether a name of an object is empty or begins with `$`; where it is to be stored, also with `_`.

@@ -14,6 +14,7 @@ mod doc;
 mod equal;
 mod ids;
 mod laws;
+mod measure;
 mod memory;
 mod order;
 mod seq;

@@ -1,5 +1,6 @@
 ghost use Rattle.std.specs.Prelude.{◌≡◌, [], ◌∷◌, ◌++◌, IfOk, OnOk, OnErr, map};
 
+use crate::measure::Measure;
 use crate::memory::Memory;
 use crate::text::{Bytes, Text};
 use std::alloc::Global;
@@ -19,19 +20,21 @@ pub enum Val {
     Obj(Fields),
 }
 
-/// The items of an array. Contracts see the list of their trees.
+/// The items of an array, and their measure beside them. Contracts see the list of their trees.
 #[cycle(val)]
 #[derive(Debug, Drop)]
 pub struct Vals {
     items: Vec<Val>,
+    measure: Measure,
 }
 
-/// The fields of an object: distinct names, each with its value. Contracts see the list of the
-/// pairs, in byte order of the names.
+/// The fields of an object: distinct names, each with its value, and their measure beside them.
+/// Contracts see the list of the pairs, in byte order of the names.
 #[cycle(val)]
 #[derive(Debug, Drop)]
 pub struct Fields {
     inner: BTreeMap<Text, Val>,
+    measure: Measure,
 }
 
 impl Model for Vals {
@@ -48,6 +51,11 @@ impl Model for Vals {
     ghost use Rattle.cv_values.specs.Trees.{tree, greatest};
 
     ghost view = { λ a. map tree a.items.items };
+
+    ghost use Rattle.std.specs.Prelude.{◌≡◌};
+    ghost use Rattle.cv_values.specs.Measures.{of_values};
+
+    ghost invariant = { λ a. a.measure ≡ of_values (map tree a.items.items) };
 
     ghost size = { greatest };
 
@@ -72,6 +80,11 @@ impl Model for Fields {
 
     ghost view = { λ a. map (λ e. (e.0, tree e.1)) a.inner.entries };
 
+    ghost use Rattle.std.specs.Prelude.{◌≡◌};
+    ghost use Rattle.cv_values.specs.Measures.{of_members};
+
+    ghost invariant = { λ a. a.measure ≡ of_members (map (λ e. (e.0, tree e.1)) a.inner.entries) };
+
     ghost size = { greatest_member };
 
     ghost use Rattle.cv_values.specs.Nesting.{most_member_le};
@@ -87,6 +100,7 @@ impl Vals {
     {
         Vals {
             items: Vec::new(alloc),
+            measure: Measure::nothing(),
         }
     }
 }
@@ -98,11 +112,13 @@ impl Fields {
     {
         Fields {
             inner: BTreeMap::new(alloc),
+            measure: Measure::nothing(),
         }
     }
 }
 
 impl Vals {
+    ghost use Rattle.cv_values.specs.Measures.{of_values};
     ghost use Rattle.cv_values.specs.Nesting.{NestBelow};
     ghost use Rattle.cv_values.specs.Trees.{tree, greatest};
 
@@ -111,22 +127,26 @@ impl Vals {
         ensures ok { OnOk result (self.new ≡ self.old ++ tree v ∷ []) }
         ensures err { OnErr result (self.new ≡ self.old) }
     {
+        let added = Measure::of_val(&v);
         self.items.push(v)?;
+        self.measure = self.measure.add(added);
         Ok(())
     }
 
-    /// The array of the items of a `Vec`, which it takes over. It takes no memory.
+    /// The array of the items of a `Vec`, which it takes over. It takes no memory, and goes over the
+    /// items, but not into them.
     pub fn from_vec(items: Vec<Val>) -> Vals
         ensures { result ≡ map tree items.items }
     {
-        Vals { items }
+        let measure = Measure::of_items(items.as_slice());
+        Vals { items, measure }
     }
 
     /// The `Vec` of the items. It copies nothing.
     pub fn into_vec(self) -> Vec<Val>
         ensures { map tree result.items ≡ self }
     {
-        let Vals { items } = self;
+        let Vals { items, .. } = self;
         items
     }
 
@@ -138,6 +158,13 @@ impl Vals {
         self.items.as_slice()
     }
 
+    /// The measure of the items. Constant time.
+    pub(crate) fn measure(&self) -> Measure
+        ensures { result ≡ of_values self.now }
+    {
+        self.measure
+    }
+
     /// Equal items, in memory of their own.
     #[cycle(copy)]
     pub fn copy(&self, alloc: Global) -> Result<Vals, Memory>
@@ -147,11 +174,15 @@ impl Vals {
         for item in &self.items {
             items.push(item.copy(alloc)?)?;
         }
-        Ok(Vals { items })
+        Ok(Vals {
+            items,
+            measure: self.measure,
+        })
     }
 }
 
 impl Fields {
+    ghost use Rattle.cv_values.specs.Measures.{of_members};
     ghost use Rattle.cv_values.specs.Nesting.{NestBelow};
     ghost use Rattle.cv_values.specs.Trees.{tree, greatest_member};
     ghost use Rattle.std.specs.BTreeMap.{values};
@@ -171,13 +202,19 @@ impl Fields {
     }
 
     /// Sets the value of a name, and gives the value that the name had before. It costs a search
-    /// over the names.
+    /// over the names, and where the name was there it goes over all of them.
     pub fn insert(&mut self, name: Text, v: Val) -> Result<Option<Val>, Memory>
         ensures before { IfOk result (λ old. option_map tree old ≡ lookup (is_at (slice_cmp nat_cmp name)) self.old) }
         ensures ok { OnOk result (self.new ≡ insert_entry (slice_cmp nat_cmp) self.old name (tree v)) }
         ensures err { OnErr result (self.new ≡ self.old) }
     {
-        Ok(self.inner.insert(name, v)?)
+        let added = Measure::of_member(&name, &v);
+        let old = self.inner.insert(name, v)?;
+        self.measure = match &old {
+            None => self.measure.add(added),
+            Some(_) => Measure::of_map(&self.inner),
+        };
+        Ok(old)
     }
 
     /// The value of a name, or none exactly where the name isn't there.
@@ -199,6 +236,13 @@ impl Fields {
         &self.inner
     }
 
+    /// The measure of the names and values. Constant time.
+    pub(crate) fn measure(&self) -> Measure
+        ensures { result ≡ of_members self.now }
+    {
+        self.measure
+    }
+
     /// Equal fields, in memory of their own.
     #[cycle(copy)]
     pub fn copy(&self, alloc: Global) -> Result<Fields, Memory>
@@ -208,6 +252,9 @@ impl Fields {
         for (name, value) in self.inner.iter() {
             drop(inner.insert(name.copy(alloc)?, value.copy(alloc)?)?);
         }
-        Ok(Fields { inner })
+        Ok(Fields {
+            inner,
+            measure: self.measure,
+        })
     }
 }
