@@ -21,7 +21,7 @@ pub mod RoomMade
 pub mod RowSteps
 pub mod SameCore
 pub mod SeenRows
-pub mod Sent
 pub mod Stood
 pub mod Tailed
 pub mod Written
+pub mod Crossing

@@ -4,3 +4,4 @@ pub mod Later
 pub mod Behind
 pub mod Allowed
 pub mod Taking
+pub mod Crossing

@@ -1,6 +1,9 @@
 //! What holds of the rows at old timestamps.
 ghost use Rattle.cv_docs.specs.History.{LaterInsertsChangeNothing, InsertsSetTheirKey, NewestGoByInserts, InsertsKeepOrder, RowsGoByNewest, VersionsStayKnown, LaterInsertsAreAllowed};
 
+use crate::versions::Versions;
+use cv_values::crosses;
+
 /// Old rows stay as they were, and a scan reads what the inserts up to its timestamp have set.
 ///
 /// - Inserts at later timestamps, and documents with later numbers, change no scan.
@@ -19,3 +22,8 @@ pub fn old_rows_stay()
     ensures known { VersionsStayKnown }
     ensures allowed { LaterInsertsAreAllowed }
 {}
+
+/// Versions may go to another thread.
+pub fn versions_cross(versions: &Versions) {
+    crosses(versions);
+}

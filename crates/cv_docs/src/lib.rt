@@ -15,7 +15,7 @@ mod tests;
 mod versions;
 
 pub use entry::IndexEntry;
-pub use laws::old_rows_stay;
+pub use laws::{old_rows_stay, versions_cross};
 pub use row_index::RowIndex;
 pub use taken::Taken;
 pub use versions::Versions;

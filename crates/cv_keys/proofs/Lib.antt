@@ -10,3 +10,4 @@ pub mod Hex
 pub mod Touching
 pub mod ReadHex
 pub mod ReadIds
+pub mod Crossing

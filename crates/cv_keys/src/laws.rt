@@ -2,6 +2,9 @@
 ghost use Rattle.cv_keys.specs.KeyOrder.{KeysGoByItems, KeysAreExact, NoKeyIsPrefix, PlacesGoByKeys, IntervalsHoldByKeys};
 ghost use Rattle.cv_keys.specs.Touch.{TouchGoesByKeys};
 
+use crate::write::Write;
+use cv_values::crosses;
+
 /// The byte order of keys is the order of what they are keys of. It holds of all values whose
 /// integers fit 64 bits.
 ///
@@ -21,3 +24,8 @@ pub fn keys_keep_order()
     ensures intervals { IntervalsHoldByKeys }
     ensures touch { TouchGoesByKeys }
 {}
+
+/// Writes may go to another thread.
+pub fn writes_cross(write: &Write) {
+    crosses(write);
+}

@@ -41,7 +41,7 @@ pub use ends::interval_of;
 pub use ids::id_of;
 pub use interval::{Interval, contains};
 pub use key::Key;
-pub use laws::keys_keep_order;
+pub use laws::{keys_keep_order, writes_cross};
 pub use make::{index_key, key_of};
 pub use range::{Bound, Range, RangeFault};
 pub use schema::{Index, Schema, Table};

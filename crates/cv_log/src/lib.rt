@@ -5,9 +5,11 @@
 //! an entry is appended ([`WriteLog::first_touch_since`]).
 #![tactic(auto)]
 
+mod laws;
 #[cfg(test)]
 mod tests;
 mod touch;
 mod write_log;
 
+pub use laws::logs_cross;
 pub use write_log::WriteLog;

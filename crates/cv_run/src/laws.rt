@@ -2,6 +2,7 @@
 ghost use Rattle.cv_run.specs.Snapshots.{IdsAreDistinct, NewCallsAreFresh, SnapshotsStay};
 
 use crate::run_job::RunJob;
+use cv_values::crosses;
 
 /// The documents of a timestamp of a legal history have distinct ids, none of them an id of a call that has
 /// no entry, and they stay the same when the history goes on.
@@ -11,9 +12,7 @@ pub fn snapshots_hold()
     ensures stay { SnapshotsStay }
 {}
 
-fn crosses<T: Send>(_value: &T) {}
-
-/// Jobs may cross threads.
+/// Jobs may go to another thread.
 pub fn jobs_cross(job: &RunJob) {
     crosses(job);
 }

@@ -1,3 +1,4 @@
+pub mod Crossing
 pub mod KeptLaws
 pub mod LeftRuns
 pub mod LongerHistories

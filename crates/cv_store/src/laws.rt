@@ -8,7 +8,8 @@ ghost use Rattle.cv_store.specs.HistoryLaws.{TouchesGoOn, KeptStays, KeptWithEnt
 ghost use Rattle.cv_store.specs.PlaceLaws.{TouchesGoByPlaces, NoneIsUntouched, TailsLeaveRuns};
 ghost use Rattle.cv_store.specs.TouchLaws.{EntriesGoByMarks, HistoriesGoByMarks, AnswersTell};
 
-use cv_values::equal_where_same;
+use crate::proposal::Proposal;
+use cv_values::{crosses, equal_where_same};
 use fn_tree::Reply;
 
 /// The first touch of an entry is that of its marks, in their order, and the first touch of a history
@@ -60,3 +61,8 @@ pub fn worked_stores()
     ensures touches { AreWorkedTouches }
     ensures caches { AreWorkedCaches }
 {}
+
+/// Proposals may go to another thread.
+pub fn proposals_cross(proposal: &Proposal) {
+    crosses(proposal);
+}

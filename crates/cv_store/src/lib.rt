@@ -23,8 +23,8 @@ pub use fn_tree::{Call, Entry, Query, Reply};
 pub use has_history::HasHistory;
 pub use job::{Job, JobWent};
 pub use laws::{
-    kept_goes_on, same_replies, tails_leave_runs, touch_by_places, touches_go_by_marks,
-    touches_go_on, worked_stores,
+    kept_goes_on, proposals_cross, same_replies, tails_leave_runs, touch_by_places,
+    touches_go_by_marks, touches_go_on, worked_stores,
 };
 pub use look::Look;
 pub use proposal::{Begun, Ended, Proposal, ReadReq};

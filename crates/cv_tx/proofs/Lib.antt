@@ -9,3 +9,4 @@ pub mod Placed
 pub mod PlacesApart
 pub mod Swapped
 pub mod PendingLaws
+pub mod Crossing

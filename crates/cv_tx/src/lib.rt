@@ -16,5 +16,5 @@ mod size;
 mod tests;
 mod tx;
 
-pub use laws::pending_writes_are_the_puts;
+pub use laws::{pending_writes_are_the_puts, transactions_cross};
 pub use tx::Tx;

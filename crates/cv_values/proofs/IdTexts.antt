@@ -1,5 +1,5 @@
 -- Ids and their texts.
-use Rattle.std.proofs.Common.{◌≡◌, ℕ, zero, suc, ◌+◌, ◌-◌, ◌*◌, ◌/◌, ◌%◌, ◌^◌, ◌<◌, ◌≤◌, List, [], ◌∷◌, ◌++◌, length, take, drop, Bool, true, false, ◌&&◌, cond, nat_lt, eqb, eq-eqb, Option, Some, None, refl, sym, ap, ◌∙◌, subst, arith, inl, inr, append_assoc, append-nil, length-append, length-drop}
+use Rattle.std.proofs.Common.{◌≡◌, ℕ, zero, suc, ◌+◌, ◌-◌, ◌*◌, ◌/◌, ◌%◌, ◌^◌, ◌<◌, ◌≤◌, List, [], ◌∷◌, ◌++◌, length, take, drop, Bool, true, false, ◌&&◌, cond, eqb, eq-eqb, Option, Some, None, refl, sym, ap, ◌∙◌, subst, arith, inl, inr, append_assoc, append-nil, length-append, length-drop}
 use Rattle.std.specs.Prelude.{option_and_then, is_some}
 use Rattle.std.specs.List.{list_all}
 use Rattle.std.proofs.Math.Nat.{div-div-eq-div-mul}
@@ -9,7 +9,7 @@ use Rattle.std.proofs.lemmas.List.{length-take, take_all}
 use Rattle.std.proofs.lemmas.List.Folds.{list_all-append}
 use Rattle.std.proofs.lemmas.Nat.{pow-add}
 use Rattle.cv_values.specs.Ids.{digit, digit_value, hex_of, read_from, part, id_text, read_id}
-use Rattle.cv_values.specs.IdLaws.{IsId, IdsAreReadBack, OnlyTextsAreRead, DigitsAreRead, is_id_text}
+use Rattle.cv_values.specs.IdLaws.{IdsAreReadBack, OnlyTextsAreRead, DigitsAreRead}
 use Rattle.cv_values.specs.declared.ids.DocId.{DocId}
 
 -- ---- one digit

@@ -1,5 +1,5 @@
 -- Which texts are the texts of ids.
-use Rattle.std.specs.Prelude.{◌≡◌, ℕ, ◌<◌, ◌^◌, List, Some, None, length, Bool, true, ◌&&◌, ◌==◌, is_some}
+use Rattle.std.specs.Prelude.{◌≡◌, ℕ, ◌<◌, ◌^◌, List, Some, length, Bool, ◌&&◌, ◌==◌, is_some}
 use Rattle.std.specs.List.{list_all}
 use Rattle.cv_values.specs.Ids.{id_text, read_id, digit_value}
 use Rattle.cv_values.specs.declared.ids.DocId.{DocId}

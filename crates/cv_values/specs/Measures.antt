@@ -1,5 +1,5 @@
 -- What is kept beside the contents of an array or an object: how large and how deep they are.
-use Rattle.std.specs.Prelude.{ℕ, ◌+◌, ◌-◌, ◌^◌, min, max, true, false, ◌||◌, List, map, length}
+use Rattle.std.specs.Prelude.{ℕ, ◌+◌, ◌-◌, ◌^◌, min, max, true, false, ◌||◌, List, length}
 use Rattle.cv_values.specs.Sizes.{size_of, values_size, members_size, has_many, values_many, members_many, is_bad_name, has_bad_name, values_bad_name, members_bad_name}
 use Rattle.cv_values.specs.Value.{Value, depth_of, values_of, members_of, values_depth, members_depth}
 use Rattle.cv_values.specs.declared.measure.Measure.{Measure}

@@ -8,7 +8,9 @@ ghost use Rattle.cv_values.specs.Trees.{tree};
 ghost use Rattle.cv_values.specs.Value.{Value};
 ghost use Rattle.cv_values.specs.declared.val.Val.{Val as Values};
 
+use crate::doc::Doc;
 use crate::text::Text;
+use crate::threads::crosses;
 use crate::val::{Fields, Val};
 
 /// Two values, fields or texts are equal exactly where they stand for the same.
@@ -31,3 +33,10 @@ pub fn ids_and_their_texts()
     ensures only { OnlyTextsAreRead }
     ensures digits { DigitsAreRead }
 {}
+
+/// Values, fields and documents may go to another thread.
+pub fn values_cross(value: &Val, fields: &Fields, doc: &Doc) {
+    crosses(value);
+    crosses(fields);
+    crosses(doc);
+}

@@ -22,6 +22,7 @@ mod sizes;
 #[cfg(test)]
 mod tests;
 mod text;
+mod threads;
 mod val;
 
 pub use check::{
@@ -30,10 +31,11 @@ pub use check::{
 };
 pub use doc::{Doc, doc_value};
 pub use ids::{DocId, id_text, read_id};
-pub use laws::{equal_where_same, ids_and_their_texts, order_is_total};
+pub use laws::{equal_where_same, ids_and_their_texts, order_is_total, values_cross};
 pub use memory::Memory;
 pub use order::{compare, compare_fields};
 pub use seq::{Copied, Seq, copy_slice};
 pub use sizes::{depth_of, size_of, size_of_fields};
 pub use text::{Bytes, Text};
+pub use threads::{crosses, shared};
 pub use val::{Fields, Val, Vals};

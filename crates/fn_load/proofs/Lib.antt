@@ -1,2 +1,2 @@
+pub mod Crossing
 mod OneAnswer
-pub mod Sharing

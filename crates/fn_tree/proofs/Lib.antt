@@ -10,6 +10,7 @@ pub mod CanonicalUtf8
 pub mod Characters
 pub mod CommitsAreLegal
 pub mod Consumed
+pub mod Crossing
 pub mod DeclarationTexts
 pub mod Descents
 pub mod DocumentLemmas

@@ -16,8 +16,10 @@ ghost use Rattle.fn_tree.specs.StatementExamples.{IsWorkedStatements};
 ghost use Rattle.fn_tree.specs.WriteExamples.{IsWorkedWrites};
 ghost use Rattle.fn_tree.specs.declared.stop.Query.{Query as Queries};
 
+use crate::entry::Entry;
 use crate::stop::Query;
-use cv_values::equal_where_same;
+use crate::syntax::Module;
+use cv_values::{crosses, equal_where_same, shared};
 
 /// The tokens of a text stand apart in it, in order and none empty, and before the place at which no
 /// token begins; each is what the text begins with at its place; and no integer among them is greater
@@ -98,3 +100,13 @@ pub fn worked_runs()
     ensures writes { IsWorkedWrites }
     ensures histories { IsWorkedHistories }
 {}
+
+/// Entries may go to another thread.
+pub fn entries_cross(entry: &Entry) {
+    crosses(entry);
+}
+
+/// Modules may be sent to another thread and be shared between threads.
+pub fn modules_are_shared(module: &Module) {
+    shared(module);
+}

@@ -24,8 +24,9 @@ pub use begin::Begin;
 pub use entry::{Call, Entry, Reply};
 pub use fault::{SyntaxFault, Why};
 pub use laws::{
-    at_most_one_module, canonical_texts, commits_are_legal, legal_histories, reads_decide,
-    runs_ask_there, runs_put_truly, same_queries, tokens_of_texts, worked_runs, worked_tokens,
+    at_most_one_module, canonical_texts, commits_are_legal, entries_cross, legal_histories,
+    modules_are_shared, reads_decide, runs_ask_there, runs_put_truly, same_queries,
+    tokens_of_texts, worked_runs, worked_tokens,
 };
 pub use lexeme::{Lexeme, Mark, Terminal, Word};
 pub use printer::print;

@@ -1,6 +1,7 @@
 pub mod Arguments
 pub mod Bounds
 pub mod Calls
+pub mod Crossing
 pub mod Following
 pub mod LastUses
 pub mod Lists

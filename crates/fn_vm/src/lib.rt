@@ -9,6 +9,7 @@ mod control;
 mod counts;
 mod frame;
 mod last_use;
+mod laws;
 mod machine;
 mod operands;
 mod reads;
@@ -23,6 +24,7 @@ mod writes;
 
 pub use cv_store::Runs;
 pub use fn_tree::Origin;
+pub use laws::machines_cross;
 pub use machine::Machine;
 pub use start::Start;
 pub use stop::Stop;

@@ -3,17 +3,16 @@ ghost use Rattle.range_tree.specs.Members.{InsertedIsThere, InsertedKeepsOthers,
 ghost use Rattle.range_tree.specs.Members.{RemovedKeepsOthers, RemovedAddsNone, OwnersAreHit, NoOthersAreHit};
 
 use crate::tree::{RangeNode, RangeTree};
+use cv_values::crosses;
 
-fn crosses<T: Send>(_value: &T) {}
-
-/// Nodes and trees may go to another thread: this function is checked, and does nothing.
+/// Nodes and trees may go to another thread.
 pub fn nodes_and_trees_cross(node: &RangeNode, tree: &RangeTree) {
     crosses(node);
     crosses(tree);
 }
 
 /// Which intervals the list of a tree has behind a change, and whose owners a key hits: what callers of
-/// [`RangeTree::insert`], [`RangeTree::remove`] and [`RangeTree::visit`] need to know of the lists in their
+/// [`RangeTree::insert`], [`RangeTree::remove`] and [`RangeTree::stab`] need to know of the lists in their
 /// clauses.
 pub fn lists_tell()
     ensures inserted { InsertedIsThere }

@@ -1,5 +1,5 @@
 use denote.Param.Send.{sendable}
-use Rattle.fn_load.proofs.Sharing.{program_send, program_sync}
+use Rattle.fn_load.proofs.Crossing.{program_send, program_sync}
 use Rattle.fn_load.proofs.laws.programs_are_shared.Goals as goal
 
 pub shared-requires-send-T : goal.shared-requires-send-T

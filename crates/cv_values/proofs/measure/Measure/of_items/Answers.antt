@@ -1,4 +1,4 @@
-use Rattle.std.proofs.Common.{◌≡◌, ◌+◌, ◌-◌, ◌^◌, ◌≤◌, ◌∷◌, List, sym, ap, ◌∙◌, map, drop, arith}
+use Rattle.std.proofs.Common.{◌≡◌, ◌+◌, ◌-◌, ◌^◌, ◌≤◌, ◌∷◌, sym, ap, ◌∙◌, map, drop, arith}
 use Rattle.std.proofs.lemmas.List.{drop_more}
 use Rattle.cv_values.specs.Measures.{add, of_value, of_values}
 use Rattle.cv_values.specs.Trees.{tree}
