@@ -1,0 +1,11 @@
+pub mod Crossing
+pub mod Flagged
+pub mod Hits
+pub mod Keyed
+pub mod Numbered
+pub mod Put
+pub mod Queries
+pub mod Replaced
+pub mod Shown
+pub mod Swept
+pub mod Tied

@@ -1,0 +1,4 @@
+pub mod Subs
+pub mod Codes
+pub mod Laws
+pub mod Views
